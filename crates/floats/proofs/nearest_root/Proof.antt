@@ -1,0 +1,70 @@
+-- `floats::nearest_root` meets its contract. Assumes nothing.
+use mathlib.Core.Path.{_≡_, sym, ap₂, _∙_, subst}
+use Prim.Native.Nat.{ℕ, _+_, _-_, _*_, _/_, _%_, _<_, _^_}
+use native.Mathlib.Omega.{arith}
+use borrow.Author.Needs.{needs}
+use Rattle.floats.specs.Root.{wholeRoot}
+use Rattle.floats.proofs.Algorithm.{radicand, shift-small, hidden-digit, root-small, pattern-shifted, pattern-fits, root-of-units}
+use Rattle.floats.proofs.nearest_root.Statement.{statement}
+use Rattle.floats.proofs.nearest_root.Tie as tie
+
+cast-halve-exponent : tie.Need-cast-halve-exponent
+cast-halve-exponent c = record { fits = omega (arith, shift-small _ _ _ _ (c .pre)) }
+
+halve-exponent-requires : tie.Need-halve-exponent-requires
+halve-exponent-requires c κs = (c .pre .exponent, shift-small _ _ _ _ (c .pre), c .pre .digits, c .pre .least, c .pre .apart)
+
+cast-root-digits : tie.Need-cast-root-digits
+cast-root-digits c = search needs
+
+shl-root-digits : tie.Need-shl-root-digits
+shl-root-digits c = shift-small _ _ _ _ (c .before .pre)
+
+shr-root-digits : tie.Need-shr-root-digits
+shr-root-digits c = search needs
+
+add-root-digits : tie.Need-add-root-digits
+add-root-digits c = search needs
+
+root-digits-requires : tie.Need-root-digits-requires
+root-digits-requires c κs = search needs
+
+sub-result : tie.Need-sub-result
+sub-result c = hidden-digit _ _ _ _ (c .before .before .before .pre)
+
+shl-result : tie.Need-shl-result
+shl-result c = search needs
+
+-- what is returned, with the root's digits as root_digits promises them
+answer : (c : tie.After-struct-known2) → let a = c .before .before .before .before .args in let h = c .before .before .before .halve-exponent .result in
+    h .dropped * 2 ^ (a .p - 1) % 2 ^ 64 + (c .before .root-digits .result + 1) / 2 ≡ h .dropped * 2 ^ (a .p - 1) + (wholeRoot (radicand (a .q) (a .p + 1) (h .odd)) + 1) / 2
+answer c =
+    ap₂ (λ (x r : ℕ). x + (r + 1) / 2)
+    (pattern-shifted _ _ _ _ _ _ (c .before .before .before .before .pre) (c .before .before .before .halve-exponent .ensures))
+    (c .before .root-digits .ensures)
+
+add-result : tie.Need-add-result
+add-result c = record { fits = omega (arith, c .before .root-digits .ensures, root-small _ _ _ _ _ _ (c .before .before .before .before .pre) (c .before .before .before .halve-exponent .ensures)) }
+
+add-result-2 : tie.Need-add-result-2
+add-result-2 c = record { fits = subst (λ (x : ℕ). x < 2 ^ 64) (sym (answer c)) (pattern-fits _ _ _ _ _ _ (c .before .before .before .before .pre) (c .before .before .before .halve-exponent .ensures)) }
+
+returns : tie.Need-returns
+returns c f ep el h = answer c ∙ root-of-units _ _ _ _ _ _ (c .before .before .before .before .pre) (c .before .before .before .halve-exponent .ensures) f ep el h
+
+pub nearest-root-spec : {M : Type 1} → statement M
+nearest-root-spec =
+    tie.close
+    (tie.spec
+    cast-halve-exponent
+    halve-exponent-requires
+    cast-root-digits
+    shl-root-digits
+    shr-root-digits
+    add-root-digits
+    root-digits-requires
+    sub-result
+    shl-result
+    add-result
+    add-result-2
+    returns)
