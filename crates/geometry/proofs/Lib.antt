@@ -1,0 +1,3 @@
+-- Lemmas that several proofs cite.
+pub mod Flags
+pub mod Infinities

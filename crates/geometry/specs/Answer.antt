@@ -1,0 +1,33 @@
+-- What the code's structs and enums stand for: 01's values for each of their cases.
+use mathlib.Core.Option.{Option, none, some}
+use mathlib.Core.List.{List}
+use lib.ListN.{getD}
+use lib.Ieee.{Float, nan}
+use Rattle.geometry.specs.Vector
+use Rattle.geometry.specs.Vector.{Weights, weights, projected, vec2, vec3}
+use Rattle.geometry.specs.declared.Vec2 as code2
+use Rattle.geometry.specs.declared.Vec3 as code3
+use Rattle.geometry.specs.declared.Projected as codeP
+use Rattle.geometry.specs.declared.Projection.{Projection}
+use Rattle.geometry.specs.declared.Projection.the-variants.{At, Nowhere}
+use Rattle.geometry.specs.declared.CornerWeights.{CornerWeights}
+use Rattle.geometry.specs.declared.CornerWeights.the-variants.{Three, Nothing}
+
+abbrev pub point2 : code2.Vec2 → Vector.Vec2 Float
+point2 a = vec2 (a .x) (a .y)
+
+abbrev pub point3 : code3.Vec3 → Vector.Vec3 Float
+point3 a = vec3 (a .x) (a .y) (a .z)
+
+abbrev pub projectedOf : codeP.Projected → Vector.Projected Float
+projectedOf a = projected (vec3 (a .x) (a .y) (a .z)) (a .w)
+
+-- three weights, or none
+abbrev pub weightsOf : CornerWeights → Option (Weights Float)
+weightsOf (Three b0 b1 b2) = some (weights b0 b1 b2)
+weightsOf Nothing = none
+
+-- a projected point and its divisor, or no answer
+abbrev pub projectionOf : Projection → Option (Vector.Projected Float)
+projectionOf (At a) = some (projectedOf a)
+projectionOf Nowhere = none

@@ -1,0 +1,38 @@
+-- 01's leaves at f32, with their tests: what has an answer and what has none.
+use Prim.Native.Nat.{ℕ}
+use mathlib.Core.Bool.{Bool, true, false, not, _&&_, cond}
+use mathlib.Core.Option.{Option, none, some}
+use mathlib.Core.List.{List}
+use lib.ListN.{getD}
+use lib.Ieee.{Float, nan, inf, fin, eq}
+use Rattle.geometry.specs.Arith.{floats}
+use Rattle.geometry.specs.Vector.{Vec2, Vec3, Weights, Projected}
+use Rattle.geometry.specs.Formula.{areas, total, shares, row, over}
+
+unfoldable pub finite : Float → Bool
+finite nan = false
+finite (inf s) = false
+finite (fin s m e) = true
+
+-- Either three weights a/s, or none, when s is 0 or not finite
+unfoldable pub weighed : Weights Float → Float → Option (Weights Float)
+weighed a s = cond (finite s && not (eq s (floats .zero))) (some (shares floats a s)) none
+
+unfoldable pub weighedAll : Weights Float → Option (Weights Float)
+weighedAll a = weighed a (total floats a)
+
+-- the corner weights of q in the triangle p0, p1, p2
+unfoldable pub cornerWeights : Vec2 Float → Vec2 Float → Vec2 Float → Vec2 Float → Option (Weights Float)
+cornerWeights q p0 p1 p2 = weighedAll (areas floats q p0 p1 p2)
+
+-- a matrix has 16 numbers, column-major
+abbrev pub entries : List Float → ℕ → Float
+entries m k = getD m k nan
+
+-- no answer when y3 is 0
+unfoldable pub divided : Float → Float → Float → Float → Option (Projected Float)
+divided y0 y1 y2 y3 = cond (eq y3 (floats .zero)) none (some (over floats y0 y1 y2 y3))
+
+-- the projection of x by the matrix m
+unfoldable pub project : List Float → Vec3 Float → Option (Projected Float)
+project m x = divided (row floats (entries m) 0 x) (row floats (entries m) 1 x) (row floats (entries m) 2 x) (row floats (entries m) 3 x)
