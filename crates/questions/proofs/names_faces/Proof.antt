@@ -1,0 +1,63 @@
+use Prim.Native.Nat.{_≤_, _-_}
+use mathlib.Core.Path.{_≡_, refl, _∙_, sym}
+use lib.ListN.{length, drop}
+use native.Mathlib.Omega.{arith}
+use borrow.Author.Needs.{needs}
+use borrow.Author.Tests.{not-true, not-false}
+use Rattle.questions.specs.Questions.{namesFaces}
+use Rattle.questions.proofs.Answers.{more, stopped, ended}
+use Rattle.questions.proofs.names_faces.Statement.{statement}
+use Rattle.questions.proofs.names_faces.Tie as tie
+
+abbrev Inv-loop : tie.InvT-loop
+Inv-loop count pix2tri i₀ i = (i ≤ length pix2tri) × (namesFaces count pix2tri ≡ namesFaces count (drop i pix2tri))
+
+abbrev μ-loop : tie.MeasureT-loop
+μ-loop count pix2tri i₀ i = length pix2tri - i
+
+loop-holds : tie.Need-loop-holds Inv-loop μ-loop
+loop-holds c = (search needs, refl)
+
+mul-names-face : tie.Need-mul-names-face Inv-loop μ-loop
+mul-names-face c = search needs
+
+shared-slice-read-names-face : tie.Need-shared-slice-read-names-face Inv-loop μ-loop
+shared-slice-read-names-face c = search needs
+
+names-face-requires : tie.Need-names-face-requires Inv-loop μ-loop
+names-face-requires c κs = search needs
+
+returns : tie.Need-returns Inv-loop μ-loop
+returns c =
+    stopped _ _ _ (c .before .before .before .before .loop .inv .1) (search needs)
+    (sym (c .before .names-face .ensures) ∙ not-true _ (c .if1 .taken))
+
+add-i : tie.Need-add-i Inv-loop μ-loop
+add-i c = search needs
+
+loop-less : tie.Need-loop-less Inv-loop μ-loop
+loop-less c = search needs
+
+loop-again : tie.Need-loop-again Inv-loop μ-loop
+loop-again c =
+    more _ _ _ (c .before .before .before .before .loop .inv) (search needs)
+    (sym (c .before .names-face .ensures) ∙ not-false _ (c .if1 .left))
+
+returns-2 : tie.Need-returns-2 Inv-loop μ-loop
+returns-2 c = ended _ _ (c .before .loop .i) (c .before .loop .inv .1) (search needs)
+
+pub names-faces-spec : {M : Type 1} → statement M
+names-faces-spec =
+    tie.close
+    (tie.spec
+    Inv-loop
+    μ-loop
+    loop-holds
+    mul-names-face
+    shared-slice-read-names-face
+    names-face-requires
+    returns
+    add-i
+    loop-less
+    loop-again
+    returns-2)

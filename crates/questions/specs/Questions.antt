@@ -1,0 +1,69 @@
+-- 01, "The questions, in order". A call lists the questions it asks, in 01's order; one that it has no matter for is left out.
+use Prim.Native.Nat.{ℕ, _+_, _*_, _/_, _%_}
+use mathlib.Core.Bool.{Bool, true, _&&_, _||_, cond}
+use mathlib.Core.List.{List, [], _∷_}
+use lib.Dec.{leb, ltb, eqb}
+use lib.ListN.{length}
+
+-- a question: its number, and its answer for the arguments at hand
+pub record Question : Type 0 where
+  pub number : ℕ
+  pub answer : Bool
+
+abbrev pub ask : ℕ → Bool → Question
+ask n a = record { number = n; answer = a }
+
+-- "Accepted is 0. The first no gives its number."
+unfoldable pub firstNo : List Question → ℕ
+firstNo [] = 0
+firstNo (q ∷ qs) = cond (q .answer) (firstNo qs) (q .number)
+
+-- the bounds of 01
+abbrev pub mostSize : ℕ
+mostSize = 4096
+
+abbrev pub mostChannels : ℕ
+mostChannels = 16
+
+abbrev pub mostCount : ℕ
+mostCount = 1048576
+
+-- the map's entry of a pixel that shows no face, "called empty"
+abbrev pub empty : ℕ
+empty = 4294967295
+
+-- 1. Are width and height from 1 to 4,096 (from 2 in `interpolate_from_edges`)?
+unfoldable pub sizes : ℕ → ℕ → ℕ → Bool
+sizes least w h = leb least w && (leb w mostSize && (leb least h && leb h mostSize))
+
+-- 2. Are channels per pixel from 1 to 16?
+unfoldable pub channels : ℕ → Bool
+channels n = leb 1 n && leb n mostChannels
+
+-- 3. Is a vertex or face slice a multiple of 3 (or 2), for at most 1,048,576 of them?
+unfoldable pub groups : ℕ → ℕ → Bool
+groups of n = eqb (n % of) 0 && leb (n / of) mostCount
+
+-- 4. Has a buffer the exact length?
+unfoldable pub exact : ℕ → ℕ → Bool
+exact n length = eqb length n
+
+-- 5. Is first number plus face count at most 1,048,576?
+unfoldable pub numbers : ℕ → ℕ → Bool
+numbers first faces = leb (first + faces) mostCount
+
+-- whether every number of a list passes a test
+unfoldable pub every : (ℕ → Bool) → List ℕ → Bool
+every test [] = true
+every test (x ∷ xs) = test x && every test xs
+
+-- 6. Is every vertex number in every face below the vertex count?
+abbrev pub allBelow : ℕ → List ℕ → Bool
+allBelow n = every (λ x. ltb x n)
+
+-- 7. Is every map entry below the face count, or empty?
+unfoldable pub namesFace : ℕ → ℕ → Bool
+namesFace n x = ltb x n || eqb x empty
+
+abbrev pub namesFaces : ℕ → List ℕ → Bool
+namesFaces n = every (namesFace n)
