@@ -1,0 +1,2 @@
+-- laws that the calls' proofs cite
+pub mod Calls

@@ -1,0 +1,41 @@
+-- What an accepted call of `clear` or `join` knows, and what a refused one leaves.
+use Prim.Native.Nat.{ℕ, _*_}
+use mathlib.Core.Path.{_≡_, refl, sym, _∙_, ap}
+use mathlib.Core.Bool.{Bool, true, false, cond, _&&_}
+use mathlib.Core.List.{[], _∷_}
+use lib.Dec.{eqb}
+use lib.ListN.{length}
+use borrow.Author.Tests.{eq-eqb, ne-eqb}
+use Rattle.questions.specs.Questions.{sizes, exact, ask, firstNo}
+use Rattle.questions.specs.Laws.{Sized, sized, both, accepted, exactly}
+use Rattle.layers.specs.Layer.{Layer, layer, Outcome, outcome, answer}
+use Rattle.layers.specs.Steps.{Spans}
+use Rattle.layers.specs.Calls.{exactLayer, clearCode, joinCode}
+
+pub refusal : (code : ℕ) (before after : Layer) → (code ≡ 0 → ⊥) → outcome code (before .pix2tri) (before .pix2depth) ≡ answer code before after
+refusal code before after h = rw (ne-eqb code 0 h)
+
+pub acceptance : (code : ℕ) (before after : Layer) → code ≡ 0 → outcome 0 (after .pix2tri) (after .pix2depth) ≡ answer code before after
+acceptance code before after e = rw e
+
+pub exact-spans : (w h : ℕ) (l : Layer) → exactLayer w h l ≡ true → Spans l (w * h)
+exact-spans w h l e =
+    let parts = both (exact (w * h) (length (l .pix2tri))) _ e in
+    record { numbers = exactly _ _ (parts .0); depths = exactly _ _ (parts .1) }
+
+module _ (l : Layer) (w h : ℕ) where
+  pub clear-accepted : clearCode l w h ≡ 0 → Sized 1 w h × Spans l (w * h)
+  unfolding clearCode
+  clear-accepted e =
+      let first = accepted 0 (sizes 1 w h) _ e in
+      let second = accepted 3 (exactLayer w h l) [] (first .1) in
+      (sized 1 w h (first .0), exact-spans w h l (second .0))
+
+module _ (l r : Layer) (w h : ℕ) where
+  pub join-accepted : joinCode l r w h ≡ 0 → Sized 1 w h × Spans l (w * h) × Spans r (w * h)
+  unfolding joinCode
+  join-accepted e =
+      let first = accepted 0 (sizes 1 w h) _ e in
+      let second = accepted 3 (exactLayer w h l && exactLayer w h r) [] (first .1) in
+      let parts = both (exactLayer w h l) _ (second .0) in
+      (sized 1 w h (first .0), exact-spans w h l (parts .0), exact-spans w h r (parts .1))

@@ -1,0 +1,103 @@
+// Layers: the public calls `clear` and `join`.
+ghost use mathlib.Core.Path.{_≡_};
+ghost use Rattle.questions.specs.Laws.{Sized};
+ghost use Rattle.layers.specs.Layer.{layer, outcome};
+ghost use Rattle.layers.specs.Calls.{exactLayer, clearCode, clearing, joinCode, joining};
+
+mod pixels;
+
+// Question 4 of one layer, for the calls that are lent one.
+pub fn layer_ok(pix2tri: &[u32], pix2depth: &[f32], img_w: usize, img_h: usize) -> bool
+    requires { ⌜ Sized 1 «img_w» «img_h» ⌝ }
+    ensures { λ r. ⌜ r ≡ exactLayer «img_w» «img_h» (layer (now (pix2tri .entry)) (now (pix2depth .entry))) ⌝ }
+{
+    let n = img_w * img_h;
+    if pix2tri.len() != n {
+        return false;
+    }
+    pix2depth.len() == n
+}
+
+// Questions 1 and 4 of `clear`.
+fn clear_code(pix2tri: &[u32], pix2depth: &[f32], img_w: usize, img_h: usize) -> u32
+    ensures { λ r. ⌜ r ≡ clearCode (layer (now (pix2tri .entry)) (now (pix2depth .entry))) «img_w» «img_h» ⌝ }
+{
+    if !questions::sizes_ok(1, img_w, img_h) {
+        return 1;
+    }
+    if !layer_ok(pix2tri, pix2depth, img_w, img_h) {
+        return 4;
+    }
+    0
+}
+
+// Questions 1 and 4 of `join`.
+fn join_code(
+    left_pix2tri: &[u32],
+    left_pix2depth: &[f32],
+    right_pix2tri: &[u32],
+    right_pix2depth: &[f32],
+    img_w: usize,
+    img_h: usize,
+) -> u32
+    ensures { λ r. ⌜ r ≡ joinCode (layer (now («left_pix2tri» .entry)) (now («left_pix2depth» .entry)))
+        (layer (now («right_pix2tri» .entry)) (now («right_pix2depth» .entry))) «img_w» «img_h» ⌝ }
+{
+    if !questions::sizes_ok(1, img_w, img_h) {
+        return 1;
+    }
+    if !layer_ok(left_pix2tri, left_pix2depth, img_w, img_h) {
+        return 4;
+    }
+    if !layer_ok(right_pix2tri, right_pix2depth, img_w, img_h) {
+        return 4;
+    }
+    0
+}
+
+// Depth −infinity and the map's entry 4294967295 at every pixel.
+pub fn clear(pix2tri: &mut [u32], pix2depth: &mut [f32], img_w: usize, img_h: usize) -> u32
+    ensures { λ r. ⌜ outcome r (now (pix2tri .exit)) (now (pix2depth .exit)) ≡ clearing (layer (now (pix2tri .entry)) (now (pix2depth .entry))) «img_w» «img_h» ⌝ }
+{
+    let code = clear_code(pix2tri, pix2depth, img_w, img_h);
+    if code != 0 {
+        return code;
+    }
+    pixels::fill_numbers(pix2tri, questions::EMPTY);
+    pixels::fill_depths(pix2depth, -1.0 / 0.0);
+    0
+}
+
+// At every pixel the right layer's depth and number when its depth is greater, else the left's; written into the left.
+pub fn join(
+    left_pix2tri: &mut [u32],
+    left_pix2depth: &mut [f32],
+    right_pix2tri: &[u32],
+    right_pix2depth: &[f32],
+    img_w: usize,
+    img_h: usize,
+) -> u32
+    ensures { λ r. ⌜ outcome r (now («left_pix2tri» .exit)) (now («left_pix2depth» .exit))
+        ≡ joining (layer (now («left_pix2tri» .entry)) (now («left_pix2depth» .entry)))
+        (layer (now («right_pix2tri» .entry)) (now («right_pix2depth» .entry))) «img_w» «img_h» ⌝ }
+{
+    let code = join_code(
+        left_pix2tri,
+        left_pix2depth,
+        right_pix2tri,
+        right_pix2depth,
+        img_w,
+        img_h,
+    );
+    if code != 0 {
+        return code;
+    }
+    pixels::join_pixels(
+        left_pix2tri,
+        left_pix2depth,
+        right_pix2tri,
+        right_pix2depth,
+        img_w * img_h,
+    );
+    0
+}
