@@ -1,0 +1,56 @@
+-- Laws of the walk over the edges of an axis, row by row.
+use Prim.Native.Nat.{ℕ, zero, suc, _+_, _*_, _-_, _/_, _%_, _<_, _≤_}
+use mathlib.Core.Path.{_≡_, refl, sym, _∙_, ap, ap₂}
+use native.Mathlib.Nat.{div-eq-of-lt-le, div-add-mod', div-lt-iff-lt-mul, mul-zero, mul-comm, mul-le-mul, mul-le-mul-right}
+use native.Mathlib.Omega.{arith}
+use Rattle.pixels.specs.Edge.{Axis, Edge, edgeFrom, edgeAt, perRow, rows, edgeCount}
+
+-- (x', y') comes after (x, y), in rows of n
+pub record Follows (n x y x' y' : ℕ) : Type 0 where
+  pub column : x' < n
+  pub number : y' * n + x' ≡ y * n + x + 1
+
+-- (x, y) is place i of a walk in rows of n
+pub record Walked (n i x y : ℕ) : Type 0 where
+  pub number : y * n + x ≡ i
+  pub column : 0 < n → x < n
+
+pub walked-none : (n : ℕ) → Walked n 0 0 0
+walked-none n = record { number = omega arith; column = λ p. p }
+
+pub walked-more : {n i x y x' y' : ℕ} → Walked n i x y → Follows n x y x' y' → Walked n (i + 1) x' y'
+walked-more {n} {i} {x} {y} {x'} {y'} w f = record { number = f .number ∙ ap (λ (k : ℕ). k + 1) (w .number); column = λ p. f .column }
+
+wide : (m n i : ℕ) → i < m * n → 0 < n
+wide m zero i h = absurd (omega (arith, rw (mul-zero m) at h))
+wide m (suc n) i h = omega arith
+
+-- Place i of a walk in m rows of n lies in the rows, and its column and row are i's.
+module _ {n i x y : ℕ} (m : ℕ) (k : Walked n i x y) (h : i < m * n) where
+  pub in-row : x < n
+  in-row = k .column (wide m n i h)
+
+  row-of : i / n ≡ y
+  row-of = let e = k .number in let l = in-row in div-eq-of-lt-le n (omega arith) (omega arith)
+
+  column-of : i % n ≡ x
+  column-of = let e = k .number in let d : i / n * n + i % n ≡ i = div-add-mod' i n in let d' : y * n + i % n ≡ i = rw row-of at d in omega arith
+
+  pub in-column : y < m
+  in-column = rw row-of at (div-lt-iff-lt-mul (wide m n i h) .1 h)
+
+-- so the pair from (x, y) is pair number i
+pub walked-edge : {i x y : ℕ} (a : Axis) (w h : ℕ) → Walked (perRow a w) i x y → i < edgeCount a w h → edgeAt a w i ≡ edgeFrom a x y
+unfolding edgeAt
+walked-edge a w h k l = ap₂ (edgeFrom a) (column-of (rows a h) k l) (row-of (rows a h) k l)
+
+-- the number of a pixel of the image, and a bound on how many there are
+pub number-below : {w h x y : ℕ} → x < w → y < h → y * w + x < w * h
+number-below {w} {h} {x} {y} a b = let l : (y + 1) * w ≤ h * w = mul-le-mul-right w (omega arith) in omega (arith, mul-comm w h)
+
+pub area-below : {w h : ℕ} → w ≤ 4096 → h ≤ 4096 → w * h ≤ 16777216
+area-below a b = mul-le-mul a b
+
+-- an axis has no more pairs than the largest image has pixels
+pub edges-few : {w h : ℕ} → w ≤ 4096 → h ≤ 4096 → (right down : ℕ) → (h - down) * (w - right) ≤ 16777216
+edges-few a b right down = area-below (omega arith) (omega arith)
