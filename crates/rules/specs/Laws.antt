@@ -1,0 +1,4 @@
+-- Laws of the definitions.
+pub mod Paint
+pub mod Centre
+pub mod Finite

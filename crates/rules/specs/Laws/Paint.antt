@@ -1,0 +1,40 @@
+-- Painting a layer: nothing changes nothing, one after the other is both in a row, and only what is brought counts.
+use Prim.Native.Nat.{ℕ, _<_}
+use mathlib.Core.Path.{_≡_, sym, ap, _∙_}
+use mathlib.Core.List.{List, [], _++_}
+use Rattle.layers.specs.Cell.{Cell, offered}
+use Rattle.layers.specs.Layer.{Layer, at}
+use Rattle.layers.specs.Steps.{Spans}
+use Rattle.layers.specs.Laws.Pixels.{at-pixelwise, spans-pixelwise}
+use Rattle.layers.specs.Laws.Cells.{offered-append, same-layer}
+use Rattle.rules.specs.Draw.{painted}
+
+pub at-painted : (os : ℕ → List Cell) (n : ℕ) (l : Layer) (p : ℕ) → p < n → at (painted os n l) p ≡ offered (at l p) (os p)
+unfolding painted
+at-painted os n l p h = at-pixelwise n (λ q. offered (at l q) (os q)) p h
+
+pub spans-painted : (os : ℕ → List Cell) (n : ℕ) (l : Layer) → Spans (painted os n l) n
+unfolding painted
+spans-painted os n l = spans-pixelwise n (λ q. offered (at l q) (os q))
+
+module _ (n : ℕ) (l : Layer) where
+  -- only what is brought to the image's pixels counts
+  pub painted-same : (a b : ℕ → List Cell) → ((p : ℕ) → p < n → a p ≡ b p) → painted a n l ≡ painted b n l
+  painted-same a b e =
+      same-layer n (spans-painted a n l) (spans-painted b n l)
+      (λ p h. at-painted a n l p h ∙ ap (offered (at l p)) (e p h) ∙ sym (at-painted b n l p h))
+
+  -- nothing is brought
+  pub painted-none : (os : ℕ → List Cell) → Spans l n → ((p : ℕ) → p < n → os p ≡ []) → painted os n l ≡ l
+  unfolding offered
+  painted-none os s e = same-layer n (spans-painted os n l) s (λ p h. at-painted os n l p h ∙ ap (offered (at l p)) (e p h))
+
+  -- first a, then b
+  pub painted-append : (a b : ℕ → List Cell) → painted b n (painted a n l) ≡ painted (λ p. a p ++ b p) n l
+  painted-append a b =
+      same-layer n (spans-painted b n (painted a n l)) (spans-painted (λ p. a p ++ b p) n l)
+      (λ p h.
+      at-painted b n (painted a n l) p h
+      ∙ ap (λ (c : Cell). offered c (b p)) (at-painted a n l p h)
+      ∙ sym (offered-append (at l p) (a p) (b p))
+      ∙ sym (at-painted (λ q. a q ++ b q) n l p h))

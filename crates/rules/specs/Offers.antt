@@ -1,0 +1,53 @@
+-- What the faces bring a pixel, and the offers: defined without drawing, whatever the layer holds.
+use Prim.Native.Nat.{ℕ, _/_, _%_}
+use mathlib.Core.Path.{_≡_}
+use mathlib.Core.List.{List, [], _∷_, _++_, List·Memᴰ}
+use lib.Ieee.{Float}
+use Rattle.layers.specs.Cell.{Cell}
+use Rattle.layers.specs.Offers as layers
+use Rattle.layers.specs.Offers.{offersOf, Greatest}
+use Rattle.meshes.specs.Mesh.{Face, vertexAt}
+use Rattle.rules.specs.Piece.{Piece, pieces}
+use Rattle.rules.specs.Scan.{screened, candidate}
+
+-- what a drawing is made from beside the faces: matrix, vertices, size
+pub record Scene : Type 0 where
+  pub matrix : List Float
+  pub vertices : List Float
+  pub width : ℕ
+  pub height : ℕ
+
+abbrev pub scene : List Float → List Float → ℕ → ℕ → Scene
+scene m xyz w h = record { matrix = m; vertices = xyz; width = w; height = h }
+
+unfoldable pub facePieces : Scene → Face → List Piece
+facePieces sc f =
+    pieces (sc .matrix) (vertexAt (sc .vertices) (f .v0)) (vertexAt (sc .vertices) (f .v1)) (vertexAt (sc .vertices) (f .v2))
+
+-- what a piece brings pixel number p; pixels are numbered row by row
+unfoldable pub pieceBrings : ℕ → ℕ → Piece → ℕ → List Float
+pieceBrings w h t p = candidate (screened w h t) (p % w) (p / w)
+
+unfoldable pub piecesBring : ℕ → ℕ → List Piece → ℕ → List Float
+piecesBring w h [] p = []
+piecesBring w h (t ∷ ts) p = pieceBrings w h t p ++ piecesBring w h ts p
+
+-- the depths that a face brings pixel p, its pieces in the Rust's order
+unfoldable pub brings : Scene → Face → ℕ → List Float
+brings sc f p = piecesBring (sc .width) (sc .height) (facePieces sc f) p
+
+-- what the faces of the list bring pixel p, in list order, the first of them numbered k
+unfoldable pub brought : Scene → List Face → ℕ → ℕ → List Cell
+brought sc fs k p = layers.brought (λ f. brings sc f p) k fs
+
+-- the offers at pixel p
+unfoldable pub offers : Scene → List Face → ℕ → ℕ → List Cell
+offers sc fs k p = offersOf (brought sc fs k p)
+
+-- a pixel with an offer is covered
+unfoldable pub Covered : Scene → List Face → ℕ → Type 0
+Covered sc fs p = (o : Cell) × List·Memᴰ o (offers sc fs 0 p)
+
+-- face number i, the first of greatest depth at pixel p, holds it
+unfoldable pub Holds : Scene → List Face → ℕ → ℕ → Type 0
+Holds sc fs i p = (c : Cell) × Greatest (offers sc fs 0 p) c × (c .number ≡ i)

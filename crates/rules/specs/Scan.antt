@@ -1,0 +1,76 @@
+-- The scan of a piece, and what the piece brings a pixel.
+use Prim.Native.Nat.{ℕ}
+use mathlib.Core.Bool.{Bool, _&&_, _||_, cond}
+use mathlib.Core.Option.{Option, none, some}
+use mathlib.Core.List.{List, [], _∷_}
+use lib.Ieee.{Float, binary32, ofBits, lt, le}
+use Rattle.geometry.specs.Arith.{Arith, floats}
+use Rattle.geometry.specs.Vector.{Vec2, Vec3, vec3, flat, Weights, Triangle, triangle}
+use Rattle.geometry.specs.Formula.{blend}
+use Rattle.geometry.specs.Leaf.{cornerWeights}
+use Rattle.pixels.specs.Pixel.{half, asFloat, pixel, centre, centreOf}
+use Rattle.rules.specs.Piece.{Piece}
+open Arith floats using (add as _⊕_, sub as _⊖_, mul as _⊗_, one)
+
+infixl 6 _⊕_
+infixl 6 _⊖_
+infixl 7 _⊗_
+-- a corner in pixels, with its depth: x runs right, y runs down
+unfoldable pub onScreen : ℕ → ℕ → Vec3 Float → Vec3 Float
+onScreen w h p = vec3 ((p .x ⊕ one) ⊗ half ⊗ asFloat w) ((one ⊖ p .y) ⊗ half ⊗ asFloat h) (p .z)
+
+unfoldable pub screened : ℕ → ℕ → Piece → Triangle (Vec3 Float)
+screened w h t = triangle (onScreen w h (t .p0)) (onScreen w h (t .p1)) (onScreen w h (t .p2))
+
+-- the centre (ix+0.5, iy+0.5)
+abbrev pub centreAt : ℕ → ℕ → Vec2 Float
+centreAt ix iy = centreOf (pixel ix iy)
+
+-- the least and the greatest of three coordinates
+unfoldable pub lower : Float → Float → Float
+lower a b = cond (lt b a) b a
+
+unfoldable pub upper : Float → Float → Float
+upper a b = cond (lt a b) b a
+
+unfoldable pub least : Float → Float → Float → Float
+least a b c = lower (lower a b) c
+
+unfoldable pub greatest : Float → Float → Float → Float
+greatest a b c = upper (upper a b) c
+
+unfoldable pub between : Float → Float → Float → Bool
+between low high q = le low q && le q high
+
+-- q lies in the closed box of a, b and c, along one axis
+unfoldable pub spans : Float → Float → Float → Float → Bool
+spans a b c q = between (least a b c) (greatest a b c) q
+
+-- Scan: the pixels of the image whose centre (ix+0.5, iy+0.5) lies in the closed box of the three corners
+unfoldable pub scans : Triangle (Vec3 Float) → ℕ → ℕ → Bool
+scans s ix iy =
+    spans (s .p0 .x) (s .p1 .x) (s .p2 .x) (centre ix) && spans (s .p0 .y) (s .p1 .y) (s .p2 .y) (centre iy)
+
+-- −1e-5
+abbrev pub dropBelow : Float
+dropBelow = floats .neg (ofBits binary32 0x3727_c5ac)
+
+-- A weight below −1e-5 drops the pixel; NaN is not below.
+unfoldable pub dropped : Weights Float → Bool
+dropped b = lt (b .b0) dropBelow || (lt (b .b1) dropBelow || lt (b .b2) dropBelow)
+
+-- the depth of a point with weights b: none where the pixel is dropped
+unfoldable pub kept : Triangle (Vec3 Float) → Weights Float → List Float
+kept s b = cond (dropped b) [] (blend floats b (s .p0 .z) (s .p1 .z) (s .p2 .z) ∷ [])
+
+unfoldable pub weighedDepth : Triangle (Vec3 Float) → Option (Weights Float) → List Float
+weighedDepth s none = []
+weighedDepth s (some b) = kept s b
+
+-- the depth that a piece on the screen has at the point q, or none
+unfoldable pub depthAt : Triangle (Vec3 Float) → Vec2 Float → List Float
+depthAt s q = weighedDepth s (cornerWeights q (flat (s .p0)) (flat (s .p1)) (flat (s .p2)))
+
+-- what the piece brings the pixel (ix, iy): at most one depth
+unfoldable pub candidate : Triangle (Vec3 Float) → ℕ → ℕ → List Float
+candidate s ix iy = cond (scans s ix iy) (depthAt s (centreAt ix iy)) []
