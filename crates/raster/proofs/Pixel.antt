@@ -1,0 +1,111 @@
+-- One pixel of a layer: what a step writes there, and what a lane's depth brings.
+use Prim.Native.Nat.{ℕ, _+_, _*_, _<_}
+use mathlib.Core.Path.{_≡_, refl, sym, ap, ap₂, _∙_}
+use mathlib.Core.Bool.{Bool, true, false, cond}
+use mathlib.Core.List.{List, [], _∷_}
+use mathlib.Core.Option.{Option, none, some}
+use native.Mathlib.Omega.{arith}
+use borrow.Author.Tests.{eqb-true, eqb-false}
+use lib.Dec.{eqb}
+use lib.Ieee.{Float, nan, inf, fin, lt}
+use lib.ListN.{length, length-set}
+use lib.Seq.{getD-set-same, getD-set-other, set-getD}
+use Rattle.geometry.specs.Vector.{Vec2, vec2, Vec3, Weights, Triangle}
+use Rattle.layers.specs.Cell.{Cell, cell, lowest, exceeds, pick, offered}
+use Rattle.layers.specs.Offers.{numbered}
+use Rattle.layers.specs.Layer.{Layer, layer, at}
+use Rattle.layers.specs.Steps.{Spans, Reaches, written}
+use Rattle.layers.specs.Laws.Cells.{same-layer}
+use Rattle.pixels.specs.Pixel.{centre, centreOf}
+use Rattle.rules.specs.Scan.{depthAt, weighedDepth, kept, dropped, centreAt}
+use Rattle.rules.specs.Draw.{painted}
+use Rattle.rules.specs.Laws.Paint.{at-painted, spans-painted}
+use Rattle.raster.specs.Answer.{orLowest}
+use Rattle.raster.specs.Box.{boxCells}
+use Rattle.raster.proofs.Boxes.{box-here, box-elsewhere}
+
+-- ---- what a test leaves written
+
+pub kept-step : (l : Layer) (p : ℕ) (c : Cell) → exceeds (at l p) c ≡ false → l ≡ written l p (pick (at l p) c)
+unfolding pick
+kept-step l p c e = rw (e, set-getD (l .pix2tri) p 0, set-getD (l .pix2depth) p nan)
+
+pub taken-step : (l : Layer) (p : ℕ) (c : Cell) → exceeds (at l p) c ≡ true → written l p c ≡ written l p (pick (at l p) c)
+unfolding pick
+taken-step l p c e = rw e
+
+-- ---- −infinity is never greater
+
+not-above-lowest : (d : Float) → lt d lowest ≡ false
+unfolding lt
+not-above-lowest nan = refl
+not-above-lowest (inf true) = refl
+not-above-lowest (inf false) = refl
+not-above-lowest (fin s m e) = refl
+
+pick-lowest : (c : Cell) (k : ℕ) → pick c (cell lowest k) ≡ c
+unfolding pick exceeds
+pick-lowest c k = rw (not-above-lowest (c .depth))
+
+-- a depth or none, as a lane gives it
+pub lane-kept : (c : Cell) (k : ℕ) (s : Triangle (Vec3 Float)) (b : Weights Float) (t : Bool) → dropped b ≡ t → pick c (cell (orLowest (kept s b)) k) ≡ offered c (numbered k (kept s b))
+unfolding kept orLowest numbered offered
+lane-kept c k s b true e = rw e (pick-lowest c k)
+lane-kept c k s b false e = rw e
+
+lane-weighed : (c : Cell) (k : ℕ) (s : Triangle (Vec3 Float)) (o : Option (Weights Float)) → pick c (cell (orLowest (weighedDepth s o)) k) ≡ offered c (numbered k (weighedDepth s o))
+unfolding weighedDepth orLowest numbered offered
+lane-weighed c k s none = pick-lowest c k
+lane-weighed c k s (some b) = lane-kept c k s b (dropped b) refl
+
+pub lane-step : (c : Cell) (k : ℕ) (s : Triangle (Vec3 Float)) (q : Vec2 Float) → pick c (cell (orLowest (depthAt s q)) k) ≡ offered c (numbered k (depthAt s q))
+unfolding depthAt
+lane-step c k s q = lane-weighed c k s _
+
+-- ---- one pixel painted
+
+at-written : (l : Layer) (p : ℕ) (c : Cell) → Reaches l p → at (written l p c) p ≡ c
+at-written l p c r = ap₂ cell (getD-set-same (l .pix2depth) p (c .depth) nan (r .depths)) (getD-set-same (l .pix2tri) p (c .number) 0 (r .numbers))
+
+at-other : (l : Layer) (p q : ℕ) (c : Cell) → (q ≡ p → ⊥) → at (written l p c) q ≡ at l q
+at-other l p q c n = ap₂ cell (getD-set-other (l .pix2depth) p q (c .depth) nan n) (getD-set-other (l .pix2tri) p q (c .number) 0 n)
+
+spans-written : (l : Layer) (p : ℕ) (c : Cell) (n : ℕ) → Spans l n → Spans (written l p c) n
+spans-written l p c n s =
+    record { numbers = length-set (l .pix2tri) p (c .number) ∙ s .numbers; depths = length-set (l .pix2depth) p (c .depth) ∙ s .depths }
+
+module _ (s : Triangle (Vec3 Float)) (k w ix iy n : ℕ) (l : Layer) (whole : Spans l n) (r : Reaches l (iy * w + ix)) (inside : ix < w) where
+  -- the pixel's candidate written there is the box of that pixel painted
+  pub pixel-painted :
+      written l (iy * w + ix) (pick (at l (iy * w + ix)) (cell (orLowest (depthAt s (centreAt ix iy))) k))
+      ≡ painted (boxCells s k w ix (ix + 1) iy (iy + 1)) n l
+  unfolding offered
+  pixel-painted =
+      same-layer n (spans-written l _ _ n whole) (spans-painted _ n l)
+      (λ p h. go p (eqb p (iy * w + ix)) refl ∙ sym (at-painted (boxCells s k w ix (ix + 1) iy (iy + 1)) n l p h))
+    where
+      new : Cell
+      new = pick (at l (iy * w + ix)) (cell (orLowest (depthAt s (centreAt ix iy))) k)
+
+      here : at (written l (iy * w + ix) new) (iy * w + ix) ≡ offered (at l (iy * w + ix)) (boxCells s k w ix (ix + 1) iy (iy + 1) (iy * w + ix))
+      here =
+          at-written l (iy * w + ix) new r
+          ∙ lane-step (at l (iy * w + ix)) k s (centreAt ix iy)
+          ∙ ap (offered (at l (iy * w + ix))) (sym (box-here s k w ix iy inside))
+
+      go : (p : ℕ) (b : Bool) → eqb p (iy * w + ix) ≡ b → at (written l (iy * w + ix) new) p ≡ offered (at l p) (boxCells s k w ix (ix + 1) iy (iy + 1) p)
+      go p true e = rw (eqb-true p (iy * w + ix) e) here
+      go p false e =
+          at-other l (iy * w + ix) p new (eqb-false p (iy * w + ix) e)
+          ∙ ap (offered (at l p)) (sym (box-elsewhere s k w ix iy p (eqb-false p (iy * w + ix) e)))
+
+  -- the same, step by step as the code has it
+  pub pixel-done :
+      {new : Layer} {qx qy z : Float}
+      → qx ≡ centre ix
+      → qy ≡ centre iy
+      → z ≡ orLowest (depthAt s (vec2 qx qy))
+      → new ≡ written l (iy * w + ix) (pick (at l (iy * w + ix)) (cell z k))
+      → new ≡ painted (boxCells s k w ix (ix + 1) iy (iy + 1)) n l
+  unfolding centreOf
+  pixel-done ex ey ez e = e ∙ rw (ez, ex, ey) pixel-painted

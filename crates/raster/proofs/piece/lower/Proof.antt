@@ -1,0 +1,15 @@
+-- `piece::lower`, by its test.
+use Rattle.rules.specs.Scan.{lower}
+use Rattle.raster.proofs.piece.lower.Statement.{statement}
+use Rattle.raster.proofs.piece.lower.Tie as tie
+
+returns : tie.Need-returns
+unfolding lower
+returns c = rw (c .if1 .taken)
+
+returns-2 : tie.Need-returns-2
+unfolding lower
+returns-2 c = rw (c .if1 .left)
+
+pub lower-spec : {M : Type 1} → statement M
+lower-spec = tie.close (tie.spec returns returns-2)

@@ -1,0 +1,6 @@
+-- What the drawing loops' contracts cite beside the rules.
+pub mod Answer
+pub mod Reach
+pub mod Box
+pub mod Piece
+pub mod Face
