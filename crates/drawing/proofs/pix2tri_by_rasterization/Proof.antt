@@ -1,0 +1,50 @@
+-- `pix2tri_by_rasterization`: refused with the layer as it was, or drawn.
+use borrow.Author.Needs.{needs}
+use mathlib.Core.Path.{sym, _∙_}
+use Rattle.layers.specs.Layer.{layer}
+use Rattle.drawing.proofs.Accepted.{draw-accepted, draw-refused, draw-done}
+use Rattle.drawing.proofs.pix2tri_by_rasterization.Statement.{statement}
+use Rattle.drawing.proofs.pix2tri_by_rasterization.Tie as tie
+
+draw-code-requires : tie.Need-draw-code-requires
+draw-code-requires c κs = search needs
+
+same-length : tie.Need-same-length
+same-length c = search needs
+
+same-length-2 : tie.Need-same-length-2
+same-length-2 c = search needs
+
+returns : tie.Need-returns
+returns c =
+    let a = c .before .before .before .before .before .before .before .before .args in
+    draw-refused (layer (a .pix2tri .now) (a .pix2depth .now)) (a .tri2vtx .now) (a .vtx2xyz .now) (a .img-w) (a .img-h) (a .first) (a .transform-world2ndc .now) (c .before .draw-code .result) (c .before .draw-code .ensures) (c .if1 .taken)
+
+draw-faces-requires : tie.Need-draw-faces-requires
+draw-faces-requires c κs =
+    let a = c .before .before .before .before .before .before .before .before .before .before .args in
+    draw-accepted (layer (a .pix2tri .now) (a .pix2depth .now)) (a .tri2vtx .now) (a .vtx2xyz .now) (a .img-w) (a .img-h) (a .first) (sym (c .before .before .before .draw-code .ensures) ∙ c .before .before .if1 .left)
+
+same-length-3 : tie.Need-same-length-3
+same-length-3 c = search needs
+
+same-length-4 : tie.Need-same-length-4
+same-length-4 c = search needs
+
+returns-2 : tie.Need-returns-2
+returns-2 c =
+    let a = c .before .before .before .before .before .before .before .before .before .before .before .before .before .before .before .args in
+    draw-done (layer (a .pix2tri .now) (a .pix2depth .now)) (a .tri2vtx .now) (a .vtx2xyz .now) (a .img-w) (a .img-h) (a .first) (a .transform-world2ndc .now) (c .before .before .before .before .before .before .before .before .draw-code .result) _ (c .before .before .before .before .before .before .before .before .draw-code .ensures) (c .before .before .before .before .before .before .before .if1 .left) (c .before .before .before .before .draw-faces .ensures)
+
+pub pix2tri-by-rasterization-spec : {M : Type 1} → statement M
+pix2tri-by-rasterization-spec =
+    tie.close
+    (tie.spec
+    draw-code-requires
+    same-length
+    same-length-2
+    returns
+    draw-faces-requires
+    same-length-3
+    same-length-4
+    returns-2)

@@ -1,0 +1,78 @@
+// Drawing: the public call `pix2tri_by_rasterization`.
+
+ghost use mathlib.Core.Path.{_≡_};
+ghost use mathlib.Core.Bool.{_&&_};
+ghost use Rattle.questions.specs.Questions.{groups};
+ghost use Rattle.layers.specs.Layer.{layer, outcome};
+ghost use Rattle.rules.specs.Calls.{drawCode, draws};
+
+// Question 3: whole vertices and whole faces, not too many of either.
+fn slices_ok(vertices: usize, faces: usize) -> bool
+    ensures { λ r. ⌜ r ≡ groups 3 vertices && groups 3 faces ⌝ }
+{
+    if !questions::groups_ok(3, vertices) {
+        return false;
+    }
+    questions::groups_ok(3, faces)
+}
+
+// Questions 1, 3, 4, 5 and 6.
+fn draw_code(
+    pix2tri: &[u32],
+    pix2depth: &[f32],
+    tri2vtx: &[u32],
+    vtx2xyz: &[f32],
+    img_w: usize,
+    img_h: usize,
+    first: u32,
+) -> u32
+    ensures { λ r. ⌜ r ≡ drawCode (layer (now (pix2tri .entry)) (now (pix2depth .entry))) (now (tri2vtx .entry)) (now (vtx2xyz .entry)) «img_w» «img_h» first ⌝ }
+{
+    if !questions::sizes_ok(1, img_w, img_h) {
+        return 1;
+    }
+    if !slices_ok(vtx2xyz.len(), tri2vtx.len()) {
+        return 3;
+    }
+    if !layers::layer_ok(pix2tri, pix2depth, img_w, img_h) {
+        return 4;
+    }
+    if !questions::numbers_ok(first, tri2vtx.len() / 3) {
+        return 5;
+    }
+    if !questions::all_below(vtx2xyz.len() / 3, tri2vtx) {
+        return 6;
+    }
+    0
+}
+
+// The faces drawn on the layer, numbered from `first`.
+pub fn pix2tri_by_rasterization(
+    pix2tri: &mut [u32],
+    pix2depth: &mut [f32],
+    tri2vtx: &[u32],
+    vtx2xyz: &[f32],
+    img_w: usize,
+    img_h: usize,
+    transform_world2ndc: &[f32; 16],
+    first: u32,
+) -> u32
+    ensures { λ r. ⌜ outcome r (now (pix2tri .exit)) (now (pix2depth .exit))
+        ≡ draws (layer (now (pix2tri .entry)) (now (pix2depth .entry))) (now (tri2vtx .entry)) (now (vtx2xyz .entry)) «img_w» «img_h» (now («transform_world2ndc» .entry)) first ⌝ }
+{
+    let code = draw_code(pix2tri, pix2depth, tri2vtx, vtx2xyz, img_w, img_h, first);
+    if code != 0 {
+        return code;
+    }
+    raster::face::draw_faces(
+        pix2tri,
+        pix2depth,
+        tri2vtx,
+        vtx2xyz,
+        img_w,
+        img_h,
+        transform_world2ndc,
+        first,
+    );
+    0
+}
