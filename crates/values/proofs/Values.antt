@@ -1,0 +1,137 @@
+-- From what the steps of `interpolate` promise to its outcome.
+use Prim.Native.Nat.{ℕ, _+_, _*_, _<_, _≤_}
+use mathlib.Core.Path.{_≡_, sym, _∙_, ap, ap₂}
+use mathlib.Core.Option.{Option, none, some}
+use mathlib.Core.List.{List, _++_}
+use native.Mathlib.Nat.{zero-add, mul-comm, add-mul, mul-le-mul-right}
+use native.Mathlib.Omega.{arith}
+use lib.Ieee.{Float, nan}
+use lib.ListN.{length, getD, take, drop}
+use lib.Seq.{ext-getD}
+use borrow.Author.Tests.{ne-eqb}
+use Rattle.geometry.specs.Arith.{floats}
+use Rattle.geometry.specs.Vector.{Vec3, Weights, Triangle}
+use Rattle.geometry.specs.Formula.{blend}
+use Rattle.rays.specs.Space.{Ray}
+use Rattle.rays.specs.Plane.{planeWeights}
+use Rattle.rays.specs.Pixel.{rayAt, columnAt, rowAt}
+use Rattle.meshes.specs.Mesh.{Face}
+use Rattle.meshes.specs.View.{named, viewOf}
+use Rattle.meshes.specs.Laws.{entry-read}
+use Rattle.layers.specs.Layer.{tabulate}
+use Rattle.layers.specs.Laws.Pixels.{length-tabulate, getD-tabulate}
+use Rattle.values.specs.Pass.{Image, image, Vertices, valueOf, cornersAt}
+use Rattle.values.specs.Interpolate.{blendOf, valueAt, valueIn, interpolated, interpolateCode, interpolating, outcome}
+use Rattle.values.specs.Steps.{filled}
+use Rattle.values.specs.Laws.Filled.{filled-lent, filled-more, filled-all, length-filled}
+use Rattle.values.specs.Laws.Ranges.{tabulate-same, row-below}
+use Rattle.values.specs.Laws.Pixels.{ray-of-pixel, value-of-pixel, run-below, pixel-below}
+
+as-it-was : (xs : List Float) → xs ≡ tabulate (λ j. getD xs j nan) 0 (length xs)
+as-it-was xs =
+    ext-getD nan xs _ (sym (length-tabulate (λ j. getD xs j nan) 0 (length xs)))
+    (λ i h. sym (getD-tabulate (λ j. getD xs j nan) 0 (length xs) i nan h ∙ ap (λ (k : ℕ). getD xs k nan) (zero-add i)))
+
+module _ (s : Vertices) (o : Option Face) (r : Option (Ray Float)) (old : List Float) where
+  pub kept-empty : (n : ℕ) → length old ≡ n → o ≡ none → old ≡ tabulate (λ j. valueAt s o r j (getD old j nan)) 0 n
+  unfolding valueAt
+  kept-empty n l e = rw (← l, e) (as-it-was old)
+
+  kept : (o : Option Face) → old ≡ tabulate (λ j. valueAt s o none j (getD old j nan)) 0 (length old)
+  unfolding valueAt
+  kept none = as-it-was old
+  kept (some f) = as-it-was old
+
+  pub kept-nowhere : (n : ℕ) → length old ≡ n → r ≡ none → old ≡ tabulate (λ j. valueAt s o r j (getD old j nan)) 0 n
+  kept-nowhere n l e = rw (← l, e) (kept o)
+
+  pub blended : (f : Face) (ray : Ray Float) (p : Triangle (Vec3 Float)) (b : Weights Float) (new : List Float) (k n : ℕ) → k ≡ n → o ≡ some f → r ≡ some ray
+      → p ≡ cornersAt (s .xyz) f → b ≡ planeWeights floats p ray
+      → new ≡ tabulate (λ j. blend floats b (valueOf s (f .v0) j) (valueOf s (f .v1) j) (valueOf s (f .v2) j)) 0 k
+      → new ≡ tabulate (λ j. valueAt s o r j (getD old j nan)) 0 n
+  unfolding valueAt blendOf
+  blended f ray p b new k n ek eo er ep eb e = rw (← ek, eo, er, ← ep, ← eb) e
+
+-- one pixel's run, lent and written
+module _ (w h : ℕ) (m : List Float) (s : Vertices) (tri map : List ℕ) (iy ix : ℕ) (inside : ix < w) (below : iy * w + ix < length map) where
+  value : ℕ → Float → Float
+  value = valueIn (image w h m) s (viewOf tri map)
+
+  value-is : (x y : Float) → x ≡ columnAt w ix → y ≡ rowAt h iy → (j : ℕ) (old : Float) → j < s .channels
+      → valueAt s (named tri (getD map (iy * w + ix) 0)) (rayAt m x y) j old ≡ value ((iy * w + ix) * s .channels + j) old
+  unfolding value
+  value-is x y ex ey j old l =
+      ap₂ (λ (entry : ℕ) (q : Option (Ray Float)). valueAt s (named tri entry) q j old) (entry-read map (iy * w + ix) below) (ap₂ (rayAt m) ex ey ∙ sym (ray-of-pixel w h m iy ix inside))
+      ∙ sym (value-of-pixel (image w h m) s (viewOf tri map) (iy * w + ix) j old l)
+
+  pub pixel-filled : (x y : Float) (cur new : List Float) (k : ℕ) → k ≡ s .channels → x ≡ columnAt w ix → y ≡ rowAt h iy
+      → new ≡ tabulate (λ j. valueAt s (named tri (getD map (iy * w + ix) 0)) (rayAt m x y) j (getD (take k (drop ((iy * w + ix) * s .channels) cur)) j nan)) 0 (s .channels)
+      → take ((iy * w + ix) * s .channels) cur ++ (new ++ drop k (drop ((iy * w + ix) * s .channels) cur))
+      ≡ filled (valueIn (image w h m) s (viewOf tri map)) ((iy * w + ix) * s .channels) (s .channels) cur
+  unfolding value
+  pixel-filled x y cur new k ek ex ey e =
+      rw ek
+      (filled-lent value ((iy * w + ix) * s .channels) (s .channels) cur new
+      (e
+      ∙ rw ek
+      (tabulate-same _ _ 0 0 (s .channels)
+      (λ j l. value-is x y ex ey (0 + j) (getD (take (s .channels) (drop ((iy * w + ix) * s .channels) cur)) (0 + j) nan) (omega arith)))))
+
+  -- one more pixel of the row
+  module _ (x y : Float) (old cur new : List Float) (k : ℕ) (in-image : iy < h) (whole : length old ≡ w * h * s .channels) (ek : k ≡ s .channels)
+      (ex : x ≡ columnAt w ix) (ey : y ≡ rowAt h iy)
+      (so-far : cur ≡ filled (valueIn (image w h m) s (viewOf tri map)) (iy * w * s .channels) (ix * s .channels) old)
+      (e : new ≡ tabulate (λ j. valueAt s (named tri (getD map (iy * w + ix) 0)) (rayAt m x y) j (getD (take k (drop ((iy * w + ix) * s .channels) cur)) j nan)) 0 (s .channels)) where
+    at-sum : (iy * w + ix) * s .channels ≡ iy * w * s .channels + ix * s .channels
+    at-sum = add-mul (iy * w) ix (s .channels)
+
+    run-fits : (iy * w + ix) * s .channels + s .channels ≤ length old
+    run-fits = omega (arith, run-below (iy * w + ix) (w * h) (s .channels) (pixel-below w h iy ix in-image inside))
+
+    pub row-more : take ((iy * w + ix) * s .channels) cur ++ (new ++ drop k (drop ((iy * w + ix) * s .channels) cur))
+        ≡ filled (valueIn (image w h m) s (viewOf tri map)) (iy * w * s .channels) ((ix + 1) * s .channels) old
+    unfolding value
+    row-more =
+        let at = at-sum in
+        let next : ix * s .channels + s .channels ≡ (ix + 1) * s .channels = omega arith in
+        let fits : iy * w * s .channels + ix * s .channels ≤ length old = omega (arith, run-fits) in
+        pixel-filled x y cur new k ek ex ey e
+        ∙ ap₂ (λ (a : ℕ) (t : List Float). filled value a (s .channels) t) at so-far
+        ∙ filled-more value (iy * w * s .channels) (ix * s .channels) old fits (s .channels)
+        ∙ ap (λ (n : ℕ). filled value (iy * w * s .channels) n old) next
+
+    pub row-length : length (take ((iy * w + ix) * s .channels) cur ++ (new ++ drop k (drop ((iy * w + ix) * s .channels) cur))) ≡ length old
+    row-length =
+        let next : ix * s .channels + s .channels ≡ (ix + 1) * s .channels = omega arith in
+        let fits : iy * w * s .channels + (ix + 1) * s .channels ≤ length old = omega (arith, at-sum, run-fits) in
+        ap length row-more ∙ length-filled _ (iy * w * s .channels) ((ix + 1) * s .channels) old fits
+
+-- one more row
+module _ (value : ℕ → Float → Float) (w h c iy : ℕ) (old cur : List Float) (whole : length old ≡ w * h * c) where
+  pub rows-more : (new : List Float) → iy < h → cur ≡ filled value 0 (iy * w * c) old → new ≡ filled value (iy * w * c) (w * c) cur → new ≡ filled value 0 ((iy + 1) * w * c) old
+  rows-more new below so-far e =
+      let row : (iy * w + w) * c ≡ iy * w * c + w * c = add-mul (iy * w) w c in
+      let next : iy * w * c + w * c ≡ (iy + 1) * w * c = sym row ∙ ap (λ (n : ℕ). n * c) (omega arith) in
+      let most : (iy * w + w) * c ≤ w * h * c = mul-le-mul-right c (row-below w h iy below) in
+      let fits : 0 + iy * w * c ≤ length old = omega arith in
+      e
+      ∙ ap₂ (λ (a : ℕ) (t : List Float). filled value a (w * c) t) (sym (zero-add (iy * w * c))) so-far
+      ∙ filled-more value 0 (iy * w * c) old fits (w * c)
+      ∙ ap (λ (n : ℕ). filled value 0 n old) next
+
+  pub rows-all : iy ≤ h → h ≤ iy → cur ≡ filled value 0 (iy * w * c) old → cur ≡ tabulate (λ k. value k (getD old k nan)) 0 (w * h * c)
+  rows-all l g so-far =
+      let e : iy ≡ h = omega arith in
+      so-far
+      ∙ ap (λ (n : ℕ). filled value 0 n old) (ap (λ (i : ℕ). i * w * c) e ∙ ap (λ (n : ℕ). n * c) (mul-comm h w))
+      ∙ filled-all value (w * h * c) old whole
+
+module _ (g : Image) (s : Vertices) (tri map : List ℕ) (old : List Float) (code : ℕ) where
+  pub refused : code ≡ interpolateCode g s tri map old → (code ≡ 0 → ⊥) → outcome code old ≡ interpolating g s tri map old
+  unfolding interpolating
+  refused e no0 = rw (← e, ne-eqb code 0 no0)
+
+  pub done : (new : List Float) → code ≡ interpolateCode g s tri map old → code ≡ 0 → new ≡ interpolated g s (viewOf tri map) old
+      → outcome 0 new ≡ interpolating g s tri map old
+  unfolding interpolating
+  done new e zero0 en = rw (← e, zero0) (ap (outcome 0) en)

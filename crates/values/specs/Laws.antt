@@ -1,0 +1,5 @@
+-- Laws of the definitions.
+pub mod Ranges
+pub mod Filled
+pub mod Pixels
+pub mod Asked
