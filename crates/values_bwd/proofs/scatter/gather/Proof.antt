@@ -1,0 +1,109 @@
+use borrow.Author.Needs.{needs}
+use Prim.Native.Nat.{_+_, _-_, _≤_}
+use mathlib.Core.Path.{_≡_, refl}
+use native.Mathlib.Omega.{arith}
+use lib.Ieee.{nan}
+use lib.ListN.{getD}
+use Rattle.geometry.specs.Arith.{floats}
+use Rattle.values_bwd.specs.Gather.{gathered}
+use Rattle.values_bwd.specs.Bwd.{incomingAt}
+use Rattle.values_bwd.specs.Laws.Sums.{gathered-more, three-ended}
+use Rattle.values_bwd.proofs.scatter.gather.Statement.{statement}
+use Rattle.values_bwd.proofs.scatter.gather.Tie as tie
+
+abbrev Inv-loop : tie.InvT-loop
+Inv-loop vtx2val a0 a1 a2 dldw at c b0₀ b1₀ b2₀ j₀ b0 b1 b2 j =
+    (j ≤ c) × (b0 ≡ gathered floats (λ k. getD vtx2val (a0 + k) nan) (incomingAt dldw at) j)
+    × (b1 ≡ gathered floats (λ k. getD vtx2val (a1 + k) nan) (incomingAt dldw at) j)
+    × (b2 ≡ gathered floats (λ k. getD vtx2val (a2 + k) nan) (incomingAt dldw at) j)
+
+abbrev μ-loop : tie.MeasureT-loop
+μ-loop vtx2val a0 a1 a2 dldw at c b0₀ b1₀ b2₀ j₀ b0 b1 b2 j = c - j
+
+loop-holds : tie.Need-loop-holds Inv-loop μ-loop
+unfolding gathered
+loop-holds c = (search needs, refl, refl, refl)
+
+add-d : tie.Need-add-d Inv-loop μ-loop
+add-d c = search needs
+
+mul-d : tie.Need-mul-d Inv-loop μ-loop
+mul-d c = search needs
+
+shared-slice-read-d : tie.Need-shared-slice-read-d Inv-loop μ-loop
+shared-slice-read-d c = search needs
+
+add-b0 : tie.Need-add-b0 Inv-loop μ-loop
+add-b0 c = search needs
+
+mul-b0 : tie.Need-mul-b0 Inv-loop μ-loop
+mul-b0 c = search needs
+
+shared-slice-read-b0 : tie.Need-shared-slice-read-b0 Inv-loop μ-loop
+shared-slice-read-b0 c = search needs
+
+add-b1 : tie.Need-add-b1 Inv-loop μ-loop
+add-b1 c = search needs
+
+mul-b1 : tie.Need-mul-b1 Inv-loop μ-loop
+mul-b1 c = search needs
+
+shared-slice-read-b1 : tie.Need-shared-slice-read-b1 Inv-loop μ-loop
+shared-slice-read-b1 c = search needs
+
+add-b2 : tie.Need-add-b2 Inv-loop μ-loop
+add-b2 c = search needs
+
+mul-b2 : tie.Need-mul-b2 Inv-loop μ-loop
+mul-b2 c = search needs
+
+shared-slice-read-b2 : tie.Need-shared-slice-read-b2 Inv-loop μ-loop
+shared-slice-read-b2 c = search needs
+
+add-j : tie.Need-add-j Inv-loop μ-loop
+add-j c = search needs
+
+loop-less : tie.Need-loop-less Inv-loop μ-loop
+loop-less c = search needs
+
+loop-again : tie.Need-loop-again Inv-loop μ-loop
+loop-again c =
+    let at-loop = c .before .before .before .before .before in
+    let start = at-loop .before in
+    let d = incomingAt (start .args .dldw .now) (start .args .at) in (
+      search needs,
+      gathered-more floats (λ k. getD (start .args .vtx2val .now) (start .args .a0 + k) nan) d (at-loop .loop .j) (at-loop .loop .inv .1),
+      gathered-more floats (λ k. getD (start .args .vtx2val .now) (start .args .a1 + k) nan) d (at-loop .loop .j) (at-loop .loop .inv .2),
+      gathered-more floats (λ k. getD (start .args .vtx2val .now) (start .args .a2 + k) nan) d (at-loop .loop .j) (at-loop .loop .inv .3),
+    )
+
+returns : tie.Need-returns Inv-loop μ-loop
+returns c =
+    let at-loop = c .before in
+    let start = at-loop .before in
+    three-ended floats (λ k. getD (start .args .vtx2val .now) (start .args .a0 + k) nan) (λ k. getD (start .args .vtx2val .now) (start .args .a1 + k) nan)
+    (λ k. getD (start .args .vtx2val .now) (start .args .a2 + k) nan) _ (at-loop .loop .j) (start .args .c) (omega arith) (at-loop .loop .inv .1) (at-loop .loop .inv .2) (at-loop .loop .inv .3)
+
+pub gather-spec : {M : Type 1} → statement M
+gather-spec =
+    tie.close
+    (tie.spec
+    Inv-loop
+    μ-loop
+    loop-holds
+    add-d
+    mul-d
+    shared-slice-read-d
+    add-b0
+    mul-b0
+    shared-slice-read-b0
+    add-b1
+    mul-b1
+    shared-slice-read-b1
+    add-b2
+    mul-b2
+    shared-slice-read-b2
+    add-j
+    loop-less
+    loop-again
+    returns)
