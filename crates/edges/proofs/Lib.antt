@@ -1,0 +1,4 @@
+-- laws that the proofs share
+pub mod Corners
+pub mod Walks
+pub mod Calls

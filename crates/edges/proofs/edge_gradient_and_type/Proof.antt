@@ -1,0 +1,69 @@
+use mathlib.Core.Path.{sym, _∙_}
+use Rattle.edges.specs.Calls.{sheet}
+use Rattle.edges.specs.Laws.{edge-accepted}
+use Rattle.edges.proofs.Calls.{edge-refused, edge-done}
+use borrow.Author.Needs.{needs}
+use Rattle.edges.proofs.edge_gradient_and_type.Statement.{statement}
+use Rattle.edges.proofs.edge_gradient_and_type.Tie as tie
+
+edge-code-requires : tie.Need-edge-code-requires
+edge-code-requires c κs = search needs
+
+same-length : tie.Need-same-length
+same-length c = search needs
+
+same-length-2 : tie.Need-same-length-2
+same-length-2 c = search needs
+
+same-length-3 : tie.Need-same-length-3
+same-length-3 c = search needs
+
+same-length-4 : tie.Need-same-length-4
+same-length-4 c = search needs
+
+returns : tie.Need-returns
+returns c = edge-refused _ _ _ _ _ _ _ _ (c .before .edge-code .ensures) (c .if1 .taken)
+
+fill-sheet-requires : tie.Need-fill-sheet-requires
+fill-sheet-requires c κs =
+    let known = edge-accepted _ _ _ _ _ _ _ (sym (c .before .before .before .edge-code .ensures) ∙ c .before .before .if1 .left) in
+    (known .image, (known .signals, (search needs, (known .htypes, known .hdldrs))))
+
+fill-sheet-requires-2 : tie.Need-fill-sheet-requires-2
+fill-sheet-requires-2 c κs =
+    let known = edge-accepted _ _ _ _ _ _ _ (sym (c .before .before .before .before .before .before .before .before .before .before .edge-code .ensures) ∙ c .before .before .before .before .before .before .before .before .before .if1 .left) in
+    (known .image, (known .signals, (search needs, (known .vtypes, known .vdldrs))))
+
+same-length-5 : tie.Need-same-length-5
+same-length-5 c = search needs
+
+same-length-6 : tie.Need-same-length-6
+same-length-6 c = search needs
+
+same-length-7 : tie.Need-same-length-7
+same-length-7 c = search needs
+
+same-length-8 : tie.Need-same-length-8
+same-length-8 c = search needs
+
+returns-2 : tie.Need-returns-2
+returns-2 c =
+    edge-done _ _ _ _ _ _ _ _ (c .before .before .before .before .before .before .before .before .before .before .before .before .before .before .before .edge-code .ensures) (sheet _ _) (sheet _ _) (c .before .before .before .before .before .before .before .before .before .before .before .before .before .before .if1 .left) (c .before .before .before .before .before .before .before .before .before .before .before .fill-sheet .ensures) (c .before .before .before .before .fill-sheet2 .ensures)
+
+pub edge-gradient-and-type-spec : {M : Type 1} → statement M
+edge-gradient-and-type-spec =
+    tie.close
+    (tie.spec
+    edge-code-requires
+    same-length
+    same-length-2
+    same-length-3
+    same-length-4
+    returns
+    fill-sheet-requires
+    fill-sheet-requires-2
+    same-length-5
+    same-length-6
+    same-length-7
+    same-length-8
+    returns-2)
