@@ -1,0 +1,4 @@
+-- laws that the proofs share
+pub mod Floor
+pub mod Places
+pub mod Calls

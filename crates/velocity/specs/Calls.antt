@@ -1,0 +1,34 @@
+-- The whole outcome of `interpolate_from_edges`.
+use Prim.Native.Nat.{ℕ}
+use mathlib.Core.Bool.{Bool, _&&_, cond}
+use mathlib.Core.List.{List, [], _∷_}
+use lib.Dec.{eqb}
+use lib.ListN.{length}
+use lib.Ieee.{Float}
+use Rattle.questions.specs.Questions.{ask, firstNo, sizes, groups, exact}
+use Rattle.layers.specs.Layer.{tabulate}
+use Rattle.pixels.specs.Edge.{hedge, vedge, edgeCount}
+use Rattle.velocity.specs.Grid.{velocityAt}
+
+unfoldable pub velocityCode : ℕ → ℕ → List Float → List Float → List Float → List Float → ℕ
+velocityCode w h hedge2vy vedge2vx xy velo =
+    firstNo (ask 1 (sizes 2 w h)
+    ∷ ask 3 (groups 2 (length xy))
+    ∷ ask 4 (exact (edgeCount hedge w h) (length hedge2vy) && (exact (edgeCount vedge w h) (length vedge2vx) && exact (length xy) (length velo)))
+    ∷ [])
+
+-- the code, and `vtx2velo` afterwards
+pub record Outcome : Type 0 where
+  pub code : ℕ
+  pub velo : List Float
+
+abbrev pub outcome : ℕ → List Float → Outcome
+outcome code velo = record { code = code; velo = velo }
+
+-- a refused call leaves it as it was
+unfoldable pub answer : ℕ → List Float → List Float → Outcome
+answer code before after = outcome code (cond (eqb code 0) after before)
+
+unfoldable pub velocities : ℕ → ℕ → List Float → List Float → List Float → List Float → Outcome
+velocities w h hedge2vy vedge2vx xy velo =
+    answer (velocityCode w h hedge2vy vedge2vx xy velo) velo (tabulate (velocityAt w h hedge2vy vedge2vx xy) 0 (length xy))
