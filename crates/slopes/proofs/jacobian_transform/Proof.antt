@@ -1,0 +1,30 @@
+use Rattle.slopes.specs.Formula.{jacobian, jacobianAt}
+use borrow.Author.Needs.{needs}
+use Rattle.slopes.proofs.jacobian_transform.Statement.{statement}
+use Rattle.slopes.proofs.jacobian_transform.Tie as tie
+
+untested-requires : tie.Need-untested-requires
+untested-requires c κs = search needs
+
+jacobian-column-requires : tie.Need-jacobian-column-requires
+jacobian-column-requires c κs = search needs
+
+jacobian-column-requires-2 : tie.Need-jacobian-column-requires-2
+jacobian-column-requires-2 c κs = search needs
+
+jacobian-column-requires-3 : tie.Need-jacobian-column-requires-3
+jacobian-column-requires-3 c κs = search needs
+
+returns : tie.Need-returns
+unfolding jacobian jacobianAt
+returns c = cc
+
+pub jacobian-transform-spec : {M : Type 1} → statement M
+jacobian-transform-spec =
+    tie.close
+    (tie.spec
+    untested-requires
+    jacobian-column-requires
+    jacobian-column-requires-2
+    jacobian-column-requires-3
+    returns)

@@ -1,0 +1,30 @@
+-- A face as the pass sees it: its corners, and where the matrix takes them.
+use Prim.Native.Nat.{ℕ, _/_, _<_}
+use mathlib.Core.Path.{_≡_}
+use mathlib.Core.Bool.{true}
+use mathlib.Core.Option.{some}
+use mathlib.Core.List.{List}
+use lib.ListN.{length}
+use lib.Ieee.{Float}
+use Rattle.geometry.specs.Arith.{floats}
+use Rattle.geometry.specs.Vector.{Vec3, Weights, Projected, Triangle, triangle}
+use Rattle.geometry.specs.Formula.{pointFrom}
+use Rattle.meshes.specs.Mesh.{Face, faceAt, vertexAt}
+use Rattle.edges.specs.Inside.{projectFace, projects}
+
+unfoldable pub cornersAt : List Float → Face → Triangle (Vec3 Float)
+cornersAt xyz f = triangle (vertexAt xyz (f .v0)) (vertexAt xyz (f .v1)) (vertexAt xyz (f .v2))
+
+-- the point that the weights b make of the face's own corners
+unfoldable pub pointOn : Triangle (Vec3 Float) → Weights Float → Vec3 Float
+pointOn x b = pointFrom floats b (x .p0) (x .p1) (x .p2)
+
+-- face i is there, and has its projections
+pub record Projects (tri : List ℕ) (m xyz : List Float) (i : ℕ) : Type 0 where
+  pub there : i < length tri / 3
+  pub answered : projects m xyz (some (faceAt tri i)) ≡ true
+
+-- a face's corners and their projections
+pub record TriOf (m xyz : List Float) (f : Face) (x : Triangle (Vec3 Float)) (t : Triangle (Projected Float)) : Type 0 where
+  pub corners : cornersAt xyz f ≡ x
+  pub projections : projectFace m xyz f ≡ some t

@@ -1,0 +1,31 @@
+-- The weights of a point in a projected face: `bwd`'s inside test, and `barycentric_world`.
+use mathlib.Core.Bool.{Bool, true, false, _&&_, cond}
+use mathlib.Core.Option.{Option, none, some}
+use lib.Ieee.{Float}
+use Rattle.geometry.specs.Arith.{floats}
+use Rattle.geometry.specs.Vector.{Vec2, Weights, weights, Projected, Triangle}
+use Rattle.geometry.specs.Leaf.{finite, weighedAll}
+use Rattle.edges.specs.Inside.{allFromZero, weightsIn}
+
+-- "In `bwd` the weights must all be ≥ 0 and none means outside."
+unfoldable pub allInside : Option (Weights Float) → Bool
+allInside none = false
+allInside (some b) = allFromZero b
+
+-- `barycentric_world`: each weight over its corner's divisor ..
+unfoldable pub overDivisors : Triangle (Projected Float) → Weights Float → Weights Float
+overDivisors t b = weights (floats .div (b .b0) (t .p0 .w)) (floats .div (b .b1) (t .p1 .w)) (floats .div (b .b2) (t .p2 .w))
+
+-- .. then over their sum, none when that is 0 or not finite (`weighedAll`), and none when a weight so made is not finite
+unfoldable pub finiteAll : Option (Weights Float) → Option (Weights Float)
+finiteAll none = none
+finiteAll (some b) = cond (finite (b .b0) && (finite (b .b1) && finite (b .b2))) (some b) none
+
+unfoldable pub toWorld : Triangle (Projected Float) → Option (Weights Float) → Option (Weights Float)
+toWorld t none = none
+toWorld t (some b) = finiteAll (weighedAll (overDivisors t b))
+
+-- of the point q in a projected face; none, too, where a corner has no projection, which question 8 refuses
+unfoldable pub worldIn : Vec2 Float → Option (Triangle (Projected Float)) → Option (Weights Float)
+worldIn q none = none
+worldIn q (some t) = toWorld t (weightsIn q (some t))
