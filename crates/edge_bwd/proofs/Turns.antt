@@ -1,0 +1,77 @@
+-- The loop over an axis's pairs, column by column: what holds before turn i.
+use Prim.Native.Nat.{ℕ, zero, suc, _+_, _-_, _*_, _/_, _%_, _<_, _≤_}
+use mathlib.Core.Path.{_≡_, refl, sym, _∙_, ap, ap₂}
+use mathlib.Core.Logic.{_⊎_, ⊎-elim}
+use mathlib.Core.Bool.{Bool, true, false, _&&_}
+use mathlib.Core.List.{List, []}
+use native.Mathlib.Nat.{not-suc-le-zero, le-of-suc-le-suc, eq-or-lt-of-le, mul-comm}
+use native.Mathlib.Numerals.{add-one}
+use native.Mathlib.Omega.{arith}
+use lib.Ieee.{Float}
+use lib.ListN.{length}
+use Rattle.questions.specs.Laws.{both}
+use Rattle.meshes.specs.Sums.{Addition, summed}
+use Rattle.pixels.specs.Edge.{Axis, axis, Edge, edgeAt, edgeFrom, rows, perRow, edgeCount}
+use Rattle.pixels.specs.Laws.{Walked, walked-none, walked-more, Follows, walked-edge, in-row, in-column, number-below}
+use Rattle.edges.specs.Types.{Sight, answered}
+use Rattle.edges.specs.Calls.{all, allAnswered}
+use Rattle.edges.specs.Steps.{Within}
+use Rattle.edge_bwd.specs.Additions.{inTurn, edgeDown}
+use Rattle.edge_bwd.proofs.Sums.{then}
+
+-- what every place passes, one passes
+pub all-at : (t : ℕ → Bool) (n i : ℕ) → all t n ≡ true → i < n → t i ≡ true
+unfolding all
+all-at t zero i e h = absurd (not-suc-le-zero h)
+all-at t (suc n) i e h =
+    ⊎-elim (λ s. ap t s ∙ both (all t n) (t n) e .1) (λ l. all-at t n i (both (all t n) (t n) e .0) l) (eq-or-lt-of-le (le-of-suc-le-suc h))
+
+-- question 8 of an axis, at one of its pairs
+pub answered-at : (s : Sight) (h right down : ℕ) {x y : ℕ} → Within (s .width) h right down x y → allAnswered (axis right down) h s ≡ true
+    → answered s (edgeFrom (axis right down) x y) ≡ true
+unfolding allAnswered
+answered-at s h right down {x} {y} k e =
+    let c : x < s .width - right = omega (arith, k .column) in
+    let r : y < h - down = omega (arith, k .row) in
+    let l : y * (s .width - right) + x < (h - down) * (s .width - right) = omega (arith, number-below c r, mul-comm (h - down) (s .width - right)) in
+    let walk : Walked (s .width - right) (y * (s .width - right) + x) x y = record { number = refl; column = λ p. c } in
+    sym (ap (answered s) (walked-edge (axis right down) (s .width) h walk l))
+    ∙ all-at (λ i. answered s (edgeAt (axis right down) (s .width) i)) ((h - down) * (s .width - right)) (y * (s .width - right) + x) e l
+
+-- ---- a walk by columns is a walk by rows of the picture on its side
+
+pub down-edge : {i x y : ℕ} (right down w h : ℕ) → Walked (h - down) i y x → i < (h - down) * (w - right) → edgeDown (axis right down) h i ≡ edgeFrom (axis right down) x y
+unfolding edgeDown edgeAt
+down-edge right down w h k l =
+    let e = walked-edge (axis down right) h w k (omega (arith, mul-comm (h - down) (w - right))) in
+    ap₂ (edgeFrom (axis right down)) (ap (λ (g : Edge). g .first .row) e) (ap (λ (g : Edge). g .first .column) e)
+
+pub down-within : {i x y : ℕ} (w h right down : ℕ) → Walked (h - down) i y x → i < (h - down) * (w - right) → Within w h right down x y
+down-within {i} w h right down k l =
+    let l' : i < (w - right) * (h - down) = omega (arith, mul-comm (h - down) (w - right)) in
+    record { column = omega (arith, in-column (w - right) k l'); row = omega (arith, in-row (w - right) k l') }
+
+-- ---- the sums before turn i
+
+pub record Summing (f : ℕ → List Addition) (old : List Float) (n rows i x y : ℕ) (new : List Float) : Type 0 where
+  pub within : i ≤ n
+  pub walked : Walked rows i y x
+  pub kept : length new ≡ length old
+  pub sums : new ≡ summed old (inTurn f i)
+
+module _ (f : ℕ → List Addition) (old : List Float) (n rows : ℕ) where
+  pub summing-none : Summing f old n rows 0 0 0 old
+  unfolding inTurn summed
+  summing-none = record { within = omega arith; walked = walked-none rows; kept = refl; sums = refl }
+
+  in-turn-more : (i : ℕ) {new new' : List Float} → new ≡ summed old (inTurn f i) → new' ≡ summed new (f i) → new' ≡ summed old (inTurn f (i + 1))
+  unfolding inTurn
+  in-turn-more i p q = rw add-one (then old (inTurn f i) (f i) p q)
+
+  pub summing-more : {i x y x' y' : ℕ} {new new' : List Float} → Summing f old n rows i x y new → i < n → new' ≡ summed new (f i) → length new' ≡ length new
+      → Follows rows y x y' x' → Summing f old n rows (i + 1) x' y' new'
+  summing-more {i} s l e k follows =
+      record { within = omega arith; walked = walked-more (s .walked) follows; kept = k ∙ s .kept; sums = in-turn-more i (s .sums) e }
+
+  pub summing-all : {i x y : ℕ} {new : List Float} → Summing f old n rows i x y new → n ≤ i → new ≡ summed old (inTurn f n)
+  summing-all {i} s l = let e : i ≡ n = omega (arith, s .within) in s .sums ∙ ap (λ (k : ℕ). summed old (inTurn f k)) e

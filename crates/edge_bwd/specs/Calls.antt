@@ -1,0 +1,71 @@
+-- The whole outcome of `bwd`.
+use Prim.Native.Nat.{ℕ, _*_, _/_}
+use mathlib.Core.Bool.{Bool, true, _&&_, cond}
+use mathlib.Core.List.{List, [], _∷_}
+use lib.Dec.{eqb}
+use lib.ListN.{length}
+use lib.Ieee.{Float}
+use Rattle.questions.specs.Questions.{Question, ask, firstNo, sizes, channels, groups, exact, allBelow, namesFaces}
+use Rattle.meshes.specs.Sums.{summed}
+use Rattle.pixels.specs.Edge.{Axis, hedge, vedge, Edge, edgeCount, edgeAt}
+use Rattle.edges.specs.Inside.{projectFace, present}
+use Rattle.edges.specs.Types.{Sight}
+use Rattle.edges.specs.Gradient.{Signal}
+use Rattle.edges.specs.Calls.{all, allAnswered}
+use Rattle.tris.specs.Weights.{worldIn}
+use Rattle.edge_bwd.specs.Shares.{Share, sharesAt}
+use Rattle.edge_bwd.specs.Additions.{passAdditions}
+
+-- has `barycentric_world` an answer for a share?
+unfoldable pub weighable : List Float → List Float → Share → Bool
+weighable m xyz h = present (worldIn (h .centre) (projectFace m xyz (h .face)))
+
+-- for every share of a list
+unfoldable pub weighableAll : List Float → List Float → List Share → Bool
+weighableAll m xyz [] = true
+weighableAll m xyz (h ∷ hs) = weighable m xyz h && weighableAll m xyz hs
+
+-- 9. "In `bwd`, has `barycentric_world` an answer wherever the Rust unwraps it?" Of a pair: for each of its shares.
+unfoldable pub unwraps : Axis → Sight → Edge → Bool
+unwraps a s e = weighableAll (s .matrix) (s .vertices) (sharesAt a s e)
+
+-- 9, of every edge of an axis
+unfoldable pub allUnwraps : Axis → ℕ → Sight → Bool
+allUnwraps a h s = all (λ i. unwraps a s (edgeAt a (s .width) i)) (edgeCount a (s .width) h)
+
+-- 4: the map, values and gradients, and as many coordinates in the accumulator as in the vertices
+unfoldable pub exactBwd : ℕ → ℕ → List ℕ → Signal → List Float → List Float → Bool
+exactBwd w h map v xyz dxyz =
+    exact (w * h) (length map)
+    && (exact (w * h * v .channels) (length (v .values))
+    && (exact (w * h * v .channels) (length (v .gradients)) && exact (length xyz) (length dxyz)))
+
+-- 8, and 9 after it, of both axes
+abbrev pub ofPairs : ℕ → Sight → List Question
+ofPairs h s = ask 8 (allAnswered hedge h s && allAnswered vedge h s) ∷ ask 9 (allUnwraps hedge h s && allUnwraps vedge h s) ∷ []
+
+-- the questions, of the face list `tri2vtx`, the map `pix2tri`, what the pass sees, and the accumulator
+unfoldable pub bwdCode : List ℕ → List ℕ → ℕ → Sight → Signal → List Float → ℕ
+bwdCode tri map h s v dxyz =
+    firstNo (ask 1 (sizes 1 (s .width) h)
+    ∷ ask 2 (channels (v .channels))
+    ∷ ask 3 (groups 3 (length tri) && groups 3 (length (s .vertices)))
+    ∷ ask 4 (exactBwd (s .width) h map v (s .vertices) dxyz)
+    ∷ ask 6 (allBelow (length (s .vertices) / 3) tri)
+    ∷ ask 7 (namesFaces (length tri / 3) map)
+    ∷ ofPairs h s)
+
+-- the code, and `dldw_vtx2xyz` afterwards
+pub record Outcome : Type 0 where
+  pub code : ℕ
+  pub sums : List Float
+
+abbrev pub outcome : ℕ → List Float → Outcome
+outcome code dxyz = record { code = code; sums = dxyz }
+
+-- a refused call leaves it as it was
+unfoldable pub answer : ℕ → List Float → List Float → Outcome
+answer code before after = outcome code (cond (eqb code 0) after before)
+
+unfoldable pub edgeBwd : List ℕ → List ℕ → ℕ → Sight → Signal → List Float → Outcome
+edgeBwd tri map h s v dxyz = answer (bwdCode tri map h s v dxyz) dxyz (summed dxyz (passAdditions h s v))

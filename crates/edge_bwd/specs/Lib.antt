@@ -1,0 +1,7 @@
+-- 01, "Edges": the backward pass of the edge gradient, over a view of the map.
+pub mod Shares
+pub mod Additions
+pub mod Calls
+pub mod Steps
+-- proved of the definitions above
+pub mod Laws
