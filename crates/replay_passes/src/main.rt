@@ -1,0 +1,369 @@
+// Runs stored cases of the passes over a map again, and writes what each answers: the code, then every
+// buffer that the call writes, a line each. The file stdout has the answers of the listed Rust, and of
+// 01's questions where it refuses: the package rust/ wrote it and stdin (comparison/examples/
+// pass_answers.rs). Input is words (crate words). First the call: 4 values, 5 values backward, 6 edge
+// types, 7 edges backward, 8 velocities. Then width and height, and for 4 to 7 the channels, the
+// matrix, map, faces and vertices; then the call's other slices in order.
+
+use words::slices::next;
+use words::slices::read_bytes;
+use words::slices::read_floats;
+use words::slices::read_matrix;
+use words::slices::read_numbers;
+use words::slices::write_bytes;
+use words::slices::write_floats;
+
+// Places in a slice: no stored case has more.
+const ROOM: usize = 128;
+
+const LINE_END: u8 = 10;
+
+fn run_interpolate(
+    img_w: usize,
+    img_h: usize,
+    num_vdim: usize,
+    m: &[f32; 16],
+    pix2tri: &[u32],
+    tri2vtx: &[u32],
+    vtx2xyz: &[f32],
+    vtx2val: &[f32],
+    pix2val: &mut [f32],
+) {
+    let code = values::interpolate(
+        img_w,
+        img_h,
+        pix2tri,
+        tri2vtx,
+        vtx2xyz,
+        num_vdim,
+        vtx2val,
+        m,
+        pix2val,
+    );
+    words::write(code, LINE_END);
+    write_floats(pix2val);
+}
+
+fn interpolate(
+    img_w: usize,
+    img_h: usize,
+    num_vdim: usize,
+    m: &[f32; 16],
+    pix2tri: &[u32],
+    tri2vtx: &[u32],
+    vtx2xyz: &[f32],
+) {
+    let mut vtx2val = [0.0f32; ROOM];
+    let mut pix2val = [0.0f32; ROOM];
+    let v = read_floats(&mut vtx2val);
+    let p = read_floats(&mut pix2val);
+    run_interpolate(
+        img_w,
+        img_h,
+        num_vdim,
+        m,
+        pix2tri,
+        tri2vtx,
+        vtx2xyz,
+        &vtx2val[..v],
+        &mut pix2val[..p],
+    );
+}
+
+fn run_interpolate_bwd(
+    img_w: usize,
+    img_h: usize,
+    num_vdim: usize,
+    m: &[f32; 16],
+    pix2tri: &[u32],
+    tri2vtx: &[u32],
+    vtx2xyz: &[f32],
+    vtx2val: &[f32],
+    dldw_pix2val: &[f32],
+    dldw_vtx2xyz: &mut [f32],
+    dldw_vtx2val: &mut [f32],
+) {
+    let code = values_bwd::interpolate_bwd(
+        img_w,
+        img_h,
+        pix2tri,
+        tri2vtx,
+        vtx2xyz,
+        num_vdim,
+        vtx2val,
+        m,
+        dldw_pix2val,
+        dldw_vtx2xyz,
+        dldw_vtx2val,
+    );
+    words::write(code, LINE_END);
+    write_floats(dldw_vtx2xyz);
+    write_floats(dldw_vtx2val);
+}
+
+fn interpolate_bwd(
+    img_w: usize,
+    img_h: usize,
+    num_vdim: usize,
+    m: &[f32; 16],
+    pix2tri: &[u32],
+    tri2vtx: &[u32],
+    vtx2xyz: &[f32],
+) {
+    let mut vtx2val = [0.0f32; ROOM];
+    let mut dldw_pix2val = [0.0f32; ROOM];
+    let mut dldw_vtx2xyz = [0.0f32; ROOM];
+    let mut dldw_vtx2val = [0.0f32; ROOM];
+    let v = read_floats(&mut vtx2val);
+    let p = read_floats(&mut dldw_pix2val);
+    let x = read_floats(&mut dldw_vtx2xyz);
+    let d = read_floats(&mut dldw_vtx2val);
+    run_interpolate_bwd(
+        img_w,
+        img_h,
+        num_vdim,
+        m,
+        pix2tri,
+        tri2vtx,
+        vtx2xyz,
+        &vtx2val[..v],
+        &dldw_pix2val[..p],
+        &mut dldw_vtx2xyz[..x],
+        &mut dldw_vtx2val[..d],
+    );
+}
+
+fn run_edges(
+    img_w: usize,
+    img_h: usize,
+    num_vdim: usize,
+    m: &[f32; 16],
+    pix2tri: &[u32],
+    tri2vtx: &[u32],
+    vtx2xyz: &[f32],
+    pix2val: &[f32],
+    dldw_pix2val: &[f32],
+    hedge2type: &mut [u8],
+    hedge2dldr: &mut [f32],
+    vedge2type: &mut [u8],
+    vedge2dldr: &mut [f32],
+) {
+    let code = edges::edge_gradient_and_type(
+        tri2vtx,
+        vtx2xyz,
+        m,
+        img_w,
+        img_h,
+        pix2tri,
+        num_vdim,
+        pix2val,
+        dldw_pix2val,
+        hedge2type,
+        hedge2dldr,
+        vedge2type,
+        vedge2dldr,
+    );
+    words::write(code, LINE_END);
+    write_bytes(hedge2type);
+    write_floats(hedge2dldr);
+    write_bytes(vedge2type);
+    write_floats(vedge2dldr);
+}
+
+fn edge_gradient_and_type(
+    img_w: usize,
+    img_h: usize,
+    num_vdim: usize,
+    m: &[f32; 16],
+    pix2tri: &[u32],
+    tri2vtx: &[u32],
+    vtx2xyz: &[f32],
+) {
+    let mut pix2val = [0.0f32; ROOM];
+    let mut dldw_pix2val = [0.0f32; ROOM];
+    let mut hedge2type = [0u8; ROOM];
+    let mut hedge2dldr = [0.0f32; ROOM];
+    let mut vedge2type = [0u8; ROOM];
+    let mut vedge2dldr = [0.0f32; ROOM];
+    let p = read_floats(&mut pix2val);
+    let d = read_floats(&mut dldw_pix2val);
+    let ht = read_bytes(&mut hedge2type);
+    let hd = read_floats(&mut hedge2dldr);
+    let vt = read_bytes(&mut vedge2type);
+    let vd = read_floats(&mut vedge2dldr);
+    run_edges(
+        img_w,
+        img_h,
+        num_vdim,
+        m,
+        pix2tri,
+        tri2vtx,
+        vtx2xyz,
+        &pix2val[..p],
+        &dldw_pix2val[..d],
+        &mut hedge2type[..ht],
+        &mut hedge2dldr[..hd],
+        &mut vedge2type[..vt],
+        &mut vedge2dldr[..vd],
+    );
+}
+
+fn run_bwd(
+    img_w: usize,
+    img_h: usize,
+    num_vdim: usize,
+    m: &[f32; 16],
+    pix2tri: &[u32],
+    tri2vtx: &[u32],
+    vtx2xyz: &[f32],
+    pix2val: &[f32],
+    dldw_pix2val: &[f32],
+    dldw_vtx2xyz: &mut [f32],
+) {
+    let code = edge_bwd::bwd(
+        tri2vtx,
+        vtx2xyz,
+        dldw_vtx2xyz,
+        m,
+        img_w,
+        img_h,
+        pix2tri,
+        num_vdim,
+        pix2val,
+        dldw_pix2val,
+    );
+    words::write(code, LINE_END);
+    write_floats(dldw_vtx2xyz);
+}
+
+fn bwd(
+    img_w: usize,
+    img_h: usize,
+    num_vdim: usize,
+    m: &[f32; 16],
+    pix2tri: &[u32],
+    tri2vtx: &[u32],
+    vtx2xyz: &[f32],
+) {
+    let mut pix2val = [0.0f32; ROOM];
+    let mut dldw_pix2val = [0.0f32; ROOM];
+    let mut dldw_vtx2xyz = [0.0f32; ROOM];
+    let p = read_floats(&mut pix2val);
+    let d = read_floats(&mut dldw_pix2val);
+    let x = read_floats(&mut dldw_vtx2xyz);
+    run_bwd(
+        img_w,
+        img_h,
+        num_vdim,
+        m,
+        pix2tri,
+        tri2vtx,
+        vtx2xyz,
+        &pix2val[..p],
+        &dldw_pix2val[..d],
+        &mut dldw_vtx2xyz[..x],
+    );
+}
+
+fn run_velocities(
+    img_w: usize,
+    img_h: usize,
+    hedge2vy: &[f32],
+    vedge2vx: &[f32],
+    vtx2xy: &[f32],
+    vtx2velo: &mut [f32],
+) {
+    let code = velocity::interpolate_from_edges(img_w, img_h, hedge2vy, vedge2vx, vtx2xy, vtx2velo);
+    words::write(code, LINE_END);
+    write_floats(vtx2velo);
+}
+
+fn interpolate_from_edges(img_w: usize, img_h: usize) {
+    let mut hedge2vy = [0.0f32; ROOM];
+    let mut vedge2vx = [0.0f32; ROOM];
+    let mut vtx2xy = [0.0f32; ROOM];
+    let mut vtx2velo = [0.0f32; ROOM];
+    let h = read_floats(&mut hedge2vy);
+    let v = read_floats(&mut vedge2vx);
+    let x = read_floats(&mut vtx2xy);
+    let o = read_floats(&mut vtx2velo);
+    run_velocities(
+        img_w,
+        img_h,
+        &hedge2vy[..h],
+        &vedge2vx[..v],
+        &vtx2xy[..x],
+        &mut vtx2velo[..o],
+    );
+}
+
+fn dispatch(
+    call: u32,
+    img_w: usize,
+    img_h: usize,
+    num_vdim: usize,
+    m: &[f32; 16],
+    pix2tri: &[u32],
+    tri2vtx: &[u32],
+    vtx2xyz: &[f32],
+) {
+    if call == 4 {
+        interpolate(img_w, img_h, num_vdim, m, pix2tri, tri2vtx, vtx2xyz);
+        return;
+    }
+    if call == 5 {
+        interpolate_bwd(img_w, img_h, num_vdim, m, pix2tri, tri2vtx, vtx2xyz);
+        return;
+    }
+    if call == 7 {
+        bwd(img_w, img_h, num_vdim, m, pix2tri, tri2vtx, vtx2xyz);
+        return;
+    }
+    edge_gradient_and_type(img_w, img_h, num_vdim, m, pix2tri, tri2vtx, vtx2xyz);
+}
+
+// What calls 4 to 7 have in common.
+fn over_a_map(call: u32, img_w: usize, img_h: usize) {
+    let num_vdim = next() as usize;
+    let mut m = [0.0f32; 16];
+    let mut pix2tri = [0u32; ROOM];
+    let mut tri2vtx = [0u32; ROOM];
+    let mut vtx2xyz = [0.0f32; ROOM];
+    read_matrix(&mut m);
+    let n = read_numbers(&mut pix2tri);
+    let t = read_numbers(&mut tri2vtx);
+    let v = read_floats(&mut vtx2xyz);
+    dispatch(
+        call,
+        img_w,
+        img_h,
+        num_vdim,
+        &m,
+        &pix2tri[..n],
+        &tri2vtx[..t],
+        &vtx2xyz[..v],
+    );
+}
+
+// Runs the next case, and answers whether there was one.
+fn run_one() -> bool {
+    let call = next();
+    if call == 0 {
+        return false;
+    }
+    let img_w = next() as usize;
+    let img_h = next() as usize;
+    if call == 8 {
+        interpolate_from_edges(img_w, img_h);
+    } else {
+        over_a_map(call, img_w, img_h);
+    }
+    true
+}
+
+fn main() {
+    let mut turns: u64 = 1_000_000;
+    while turns > 0 && run_one() {
+        turns -= 1;
+    }
+}
