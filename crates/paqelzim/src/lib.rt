@@ -1,0 +1,256 @@
+// The public calls as C sees them: every function here, and nothing else, is exported. Each passes
+// its arguments on, and promises what the callee's definition says.
+
+ghost use mathlib.Core.Path.{_≡_};
+ghost use lib.Ieee.{binary32, binary64};
+ghost use Rattle.floats.specs.Root.{SquareRoot};
+ghost use Rattle.floats.specs.Narrow.{narrow, hypotOf};
+ghost use Rattle.layers.specs.Layer.{layer, outcome};
+ghost use Rattle.layers.specs.Calls.{clearing, joining};
+ghost use Rattle.meshes.specs.View.{viewOf};
+ghost use Rattle.values.specs.Pass.{image, vertices};
+ghost use Rattle.values.specs.Interpolate as forward;
+ghost use Rattle.values_bwd.specs.Bwd as backward;
+ghost use Rattle.edges.specs.Types.{sight};
+ghost use Rattle.edges.specs.Gradient.{signal};
+ghost use Rattle.edges.specs.Calls as edge;
+ghost use Rattle.edge_bwd.specs.Calls as scatter;
+ghost use Rattle.velocity.specs.Calls as velocity;
+ghost use Rattle.rules.specs.Calls.{draws};
+
+#[no_mangle]
+pub extern "C" fn paqelzim_clear(
+    pix2tri: &mut [u32],
+    pix2depth: &mut [f32],
+    img_w: usize,
+    img_h: usize,
+) -> u32
+    ensures { λ r. ⌜ outcome r (now (pix2tri .exit)) (now (pix2depth .exit)) ≡ clearing (layer (now (pix2tri .entry)) (now (pix2depth .entry))) «img_w» «img_h» ⌝ }
+{
+    layers::clear(pix2tri, pix2depth, img_w, img_h)
+}
+
+#[no_mangle]
+pub extern "C" fn paqelzim_pix2tri_by_rasterization(
+    pix2tri: &mut [u32],
+    pix2depth: &mut [f32],
+    tri2vtx: &[u32],
+    vtx2xyz: &[f32],
+    img_w: usize,
+    img_h: usize,
+    transform_world2ndc: &[f32; 16],
+    first: u32,
+) -> u32
+    ensures { λ r. ⌜ outcome r (now (pix2tri .exit)) (now (pix2depth .exit))
+        ≡ draws (layer (now (pix2tri .entry)) (now (pix2depth .entry))) (now (tri2vtx .entry)) (now (vtx2xyz .entry)) «img_w» «img_h» (now («transform_world2ndc» .entry)) first ⌝ }
+{
+    drawing::pix2tri_by_rasterization(
+        pix2tri,
+        pix2depth,
+        tri2vtx,
+        vtx2xyz,
+        img_w,
+        img_h,
+        transform_world2ndc,
+        first,
+    )
+}
+
+#[no_mangle]
+pub extern "C" fn paqelzim_join(
+    left_pix2tri: &mut [u32],
+    left_pix2depth: &mut [f32],
+    right_pix2tri: &[u32],
+    right_pix2depth: &[f32],
+    img_w: usize,
+    img_h: usize,
+) -> u32
+    ensures { λ r. ⌜ outcome r (now («left_pix2tri» .exit)) (now («left_pix2depth» .exit))
+        ≡ joining (layer (now («left_pix2tri» .entry)) (now («left_pix2depth» .entry)))
+        (layer (now («right_pix2tri» .entry)) (now («right_pix2depth» .entry))) «img_w» «img_h» ⌝ }
+{
+    layers::join(
+        left_pix2tri,
+        left_pix2depth,
+        right_pix2tri,
+        right_pix2depth,
+        img_w,
+        img_h,
+    )
+}
+
+#[no_mangle]
+pub extern "C" fn paqelzim_interpolate(
+    img_w: usize,
+    img_h: usize,
+    pix2tri: &[u32],
+    tri2vtx: &[u32],
+    vtx2xyz: &[f32],
+    num_vdim: usize,
+    vtx2val: &[f32],
+    transform_ndc2world: &[f32; 16],
+    pix2val: &mut [f32],
+) -> u32
+    ensures { λ r. ⌜ forward.outcome r (now (pix2val .exit))
+        ≡ forward.interpolating (image «img_w» «img_h» (now («transform_ndc2world» .entry))) (vertices (now (vtx2xyz .entry)) «num_vdim» (now (vtx2val .entry)))
+        (now (tri2vtx .entry)) (now (pix2tri .entry)) (now (pix2val .entry)) ⌝ }
+{
+    values::interpolate(
+        img_w,
+        img_h,
+        pix2tri,
+        tri2vtx,
+        vtx2xyz,
+        num_vdim,
+        vtx2val,
+        transform_ndc2world,
+        pix2val,
+    )
+}
+
+#[no_mangle]
+pub extern "C" fn paqelzim_interpolate_bwd(
+    img_w: usize,
+    img_h: usize,
+    pix2tri: &[u32],
+    tri2vtx: &[u32],
+    vtx2xyz: &[f32],
+    num_vdim: usize,
+    vtx2val: &[f32],
+    transform_ndc2world: &[f32; 16],
+    dldw_pix2val: &[f32],
+    dldw_vtx2xyz: &mut [f32],
+    dldw_vtx2val: &mut [f32],
+) -> u32
+    ensures { λ r. ⌜ backward.outcome r (now («dldw_vtx2xyz» .exit)) (now («dldw_vtx2val» .exit))
+        ≡ backward.interpolatingBwd (image «img_w» «img_h» (now («transform_ndc2world» .entry))) (vertices (now (vtx2xyz .entry)) «num_vdim» (now (vtx2val .entry)))
+        (now (tri2vtx .entry)) (now (pix2tri .entry)) (now («dldw_pix2val» .entry)) (backward.sums (now («dldw_vtx2xyz» .entry)) (now («dldw_vtx2val» .entry))) ⌝ }
+{
+    values_bwd::interpolate_bwd(
+        img_w,
+        img_h,
+        pix2tri,
+        tri2vtx,
+        vtx2xyz,
+        num_vdim,
+        vtx2val,
+        transform_ndc2world,
+        dldw_pix2val,
+        dldw_vtx2xyz,
+        dldw_vtx2val,
+    )
+}
+
+#[no_mangle]
+pub extern "C" fn paqelzim_edge_gradient_and_type(
+    tri2vtx: &[u32],
+    vtx2xyz: &[f32],
+    transform_world2pix: &[f32; 16],
+    img_w: usize,
+    img_h: usize,
+    pix2tri: &[u32],
+    num_vdim: usize,
+    pix2val: &[f32],
+    dldw_pix2val: &[f32],
+    hedge2type: &mut [u8],
+    hedge2dldr: &mut [f32],
+    vedge2type: &mut [u8],
+    vedge2dldr: &mut [f32],
+) -> u32
+    ensures { λ r. ⌜ edge.outcome r (edge.sheet (now («hedge2type» .exit)) (now («hedge2dldr» .exit))) (edge.sheet (now («vedge2type» .exit)) (now («vedge2dldr» .exit)))
+        ≡ edge.edgeTyping (now («tri2vtx» .entry)) (now («pix2tri» .entry)) «img_h»
+        (sight (viewOf (now («tri2vtx» .entry)) (now («pix2tri» .entry))) (now («transform_world2pix» .entry)) (now («vtx2xyz» .entry)) «img_w»)
+        (signal (now («pix2val» .entry)) (now («dldw_pix2val» .entry)) «num_vdim»)
+        (edge.sheet (now («hedge2type» .entry)) (now («hedge2dldr» .entry))) (edge.sheet (now («vedge2type» .entry)) (now («vedge2dldr» .entry))) ⌝ }
+{
+    edges::edge_gradient_and_type(
+        tri2vtx,
+        vtx2xyz,
+        transform_world2pix,
+        img_w,
+        img_h,
+        pix2tri,
+        num_vdim,
+        pix2val,
+        dldw_pix2val,
+        hedge2type,
+        hedge2dldr,
+        vedge2type,
+        vedge2dldr,
+    )
+}
+
+#[no_mangle]
+pub extern "C" fn paqelzim_bwd(
+    tri2vtx: &[u32],
+    vtx2xyz: &[f32],
+    dldw_vtx2xyz: &mut [f32],
+    transform_world2pix: &[f32; 16],
+    img_w: usize,
+    img_h: usize,
+    pix2tri: &[u32],
+    num_vdim: usize,
+    pix2val: &[f32],
+    dldw_pix2val: &[f32],
+) -> u32
+    ensures { λ r. ⌜ scatter.outcome r (now («dldw_vtx2xyz» .exit))
+        ≡ scatter.edgeBwd (now («tri2vtx» .entry)) (now («pix2tri» .entry)) «img_h»
+        (sight (viewOf (now («tri2vtx» .entry)) (now («pix2tri» .entry))) (now («transform_world2pix» .entry)) (now («vtx2xyz» .entry)) «img_w»)
+        (signal (now («pix2val» .entry)) (now («dldw_pix2val» .entry)) «num_vdim») (now («dldw_vtx2xyz» .entry)) ⌝ }
+{
+    edge_bwd::bwd(
+        tri2vtx,
+        vtx2xyz,
+        dldw_vtx2xyz,
+        transform_world2pix,
+        img_w,
+        img_h,
+        pix2tri,
+        num_vdim,
+        pix2val,
+        dldw_pix2val,
+    )
+}
+
+#[no_mangle]
+pub extern "C" fn paqelzim_interpolate_from_edges(
+    img_w: usize,
+    img_h: usize,
+    hedge2vy: &[f32],
+    vedge2vx: &[f32],
+    vtx2xy: &[f32],
+    vtx2velo: &mut [f32],
+) -> u32
+    ensures { λ r. ⌜ velocity.outcome r (now («vtx2velo» .exit))
+        ≡ velocity.velocities «img_w» «img_h» (now («hedge2vy» .entry)) (now («vedge2vx» .entry)) (now («vtx2xy» .entry)) (now («vtx2velo» .entry)) ⌝ }
+{
+    velocity::interpolate_from_edges(img_w, img_h, hedge2vy, vedge2vx, vtx2xy, vtx2velo)
+}
+
+#[no_mangle]
+pub extern "C" fn paqelzim_sqrt_f32(x: f32) -> f32
+    ensures { λ r. ⌜ SquareRoot binary32 x r ⌝ }
+{
+    floats::sqrt_f32(x)
+}
+
+#[no_mangle]
+pub extern "C" fn paqelzim_sqrt_f64(x: f64) -> f64
+    ensures { λ r. ⌜ SquareRoot binary64 x r ⌝ }
+{
+    floats::sqrt_f64(x)
+}
+
+#[no_mangle]
+pub extern "C" fn paqelzim_narrow_f64_to_f32(x: f64) -> f32
+    ensures { λ r. ⌜ r ≡ narrow x ⌝ }
+{
+    floats::narrow_f64_to_f32(x)
+}
+
+#[no_mangle]
+pub extern "C" fn paqelzim_hypot_f32(a: f32, b: f32) -> f32
+    ensures { λ r. ⌜ r ≡ hypotOf a b ⌝ }
+{
+    floats::hypot_f32(a, b)
+}

@@ -1,0 +1,153 @@
+/* The calls of libpaqelzim.a, for C and C++.
+ *
+ * Make the archive by `rt staticlib paqelzim` at the root of the repository (target/staticlib/libpaqelzim.a)
+ * and link it; it needs no other library. Each call is proved to give what the definitions in crates/<name>/specs
+ * say, for every argument.
+ *
+ * A slice is a pointer and the count of its elements (not bytes). The pointer is aligned for its elements and
+ * reaches that many of them, also where a call then refuses; of an empty slice it is not null all the same. Slices
+ * that a call writes overlap no other of its slices.
+ *
+ * A call that can refuse answers a code: 0 where it is accepted, else the number of the first of these questions
+ * that is answered no, and then nothing has been written.
+ *   1  are width and height from 1 to 4,096?
+ *   2  are channels per pixel from 1 to 16?
+ *   3  are vertex and face slices multiples of 3, for at most 1,048,576 vertices and as many faces?
+ *   4  has every other buffer the exact length?
+ *   5  is first number plus face count at most 1,048,576?
+ *   6  is every vertex number in every face below the vertex count?
+ *   7  is every map entry below the face count, or empty (4294967295)?
+ *   8  has every projection that the call needs an answer?
+ *   9  has every point that the call needs weights?
+ *
+ * An image has img_w * img_h pixels, row by row from the top. A layer is a map, the number of a face or empty for
+ * each pixel, and a depth for each pixel.
+ *
+ * The float tools have no bad input: every bit pattern has its answer. What is a NaN among the answers is only
+ * promised to be a NaN, not which.
+ */
+#ifndef PAQELZIM_H
+#define PAQELZIM_H
+
+#include <stddef.h>
+#include <stdint.h>
+
+#ifdef __cplusplus
+extern "C" {
+#endif
+
+/* Writes depth -infinity and the number 4294967295, called empty, at every pixel.
+ * Questions 1, 4: both slices have img_w * img_h elements. */
+uint32_t paqelzim_clear(uint32_t *pix2tri, size_t pix2tri_len,
+                        float *pix2depth, size_t pix2depth_len,
+                        size_t img_w, size_t img_h);
+
+/* Draws the faces of tri2vtx (three vertex numbers each) in list order, numbered from first on. Vertices are three
+ * numbers each in vtx2xyz; transform_world2ndc has sixteen, column by column. At each pixel a depth is written into
+ * pix2depth, and the face's number into pix2tri, where it is greater than the stored one: an equal depth or a NaN
+ * never is, and a stored NaN stays. Every other place keeps its bits.
+ * Questions 1, 3, 4, 5, 6: pix2tri and pix2depth have img_w * img_h elements. */
+uint32_t paqelzim_pix2tri_by_rasterization(uint32_t *pix2tri, size_t pix2tri_len,
+                                           float *pix2depth, size_t pix2depth_len,
+                                           const uint32_t *tri2vtx, size_t tri2vtx_len,
+                                           const float *vtx2xyz, size_t vtx2xyz_len,
+                                           size_t img_w, size_t img_h,
+                                           const float *transform_world2ndc, uint32_t first);
+
+/* Writes into the left layer, at each pixel where the right layer's depth is greater, that depth and its number;
+ * every other place of the left keeps its bits. A NaN is never greater, and nothing is greater than a NaN.
+ * Questions 1, 4: all four slices have img_w * img_h elements. */
+uint32_t paqelzim_join(uint32_t *left_pix2tri, size_t left_pix2tri_len,
+                       float *left_pix2depth, size_t left_pix2depth_len,
+                       const uint32_t *right_pix2tri, size_t right_pix2tri_len,
+                       const float *right_pix2depth, size_t right_pix2depth_len,
+                       size_t img_w, size_t img_h);
+
+/* Writes into pix2val, num_vdim numbers a pixel, at each pixel whose entry in the map pix2tri is not empty, the
+ * values of its face's vertices (vtx2val, num_vdim a vertex), weighted where the ray through the pixel's centre meets
+ * the plane of the face. An empty pixel keeps its bits. transform_ndc2world has sixteen numbers, column by column.
+ * Questions 1, 2, 3, 4, 6, 7, 8: pix2tri has img_w * img_h elements, vtx2val num_vdim for each vertex, pix2val
+ * num_vdim for each pixel; 8 asks of the two points of each ray that is needed. */
+uint32_t paqelzim_interpolate(size_t img_w, size_t img_h,
+                              const uint32_t *pix2tri, size_t pix2tri_len,
+                              const uint32_t *tri2vtx, size_t tri2vtx_len,
+                              const float *vtx2xyz, size_t vtx2xyz_len,
+                              size_t num_vdim,
+                              const float *vtx2val, size_t vtx2val_len,
+                              const float *transform_ndc2world,
+                              float *pix2val, size_t pix2val_len);
+
+/* Adds to dldw_vtx2xyz and dldw_vtx2val, for the corners of each pixel's face, pixels in rising number, what the
+ * gradient dldw_pix2val of the pixel's values brings them. A vertex of no face in the map keeps its bits.
+ * Questions 1, 2, 3, 4, 6, 7, 8: lengths as above; dldw_pix2val as pix2val, dldw_vtx2xyz as vtx2xyz, dldw_vtx2val as
+ * vtx2val. */
+uint32_t paqelzim_interpolate_bwd(size_t img_w, size_t img_h,
+                                  const uint32_t *pix2tri, size_t pix2tri_len,
+                                  const uint32_t *tri2vtx, size_t tri2vtx_len,
+                                  const float *vtx2xyz, size_t vtx2xyz_len,
+                                  size_t num_vdim,
+                                  const float *vtx2val, size_t vtx2val_len,
+                                  const float *transform_ndc2world,
+                                  const float *dldw_pix2val, size_t dldw_pix2val_len,
+                                  float *dldw_vtx2xyz, size_t dldw_vtx2xyz_len,
+                                  float *dldw_vtx2val, size_t dldw_vtx2val_len);
+
+/* Writes type and gradient of every pair of neighbouring pixels: hedges between a pixel and the one below it, vedges
+ * between a pixel and the one to its right. Where the map's entries are equal the type is 0, else 1 where one centre
+ * at least lies inside the other's face.
+ * Questions 1, 2, 3, 4, 6, 7, 8: pix2val and dldw_pix2val have num_vdim numbers a pixel, the hedge buffers
+ * (img_h - 1) * img_w, the vedge buffers img_h * (img_w - 1); 8 asks of the corners of both faces of each unequal
+ * pair. */
+uint32_t paqelzim_edge_gradient_and_type(const uint32_t *tri2vtx, size_t tri2vtx_len,
+                                         const float *vtx2xyz, size_t vtx2xyz_len,
+                                         const float *transform_world2pix,
+                                         size_t img_w, size_t img_h,
+                                         const uint32_t *pix2tri, size_t pix2tri_len,
+                                         size_t num_vdim,
+                                         const float *pix2val, size_t pix2val_len,
+                                         const float *dldw_pix2val, size_t dldw_pix2val_len,
+                                         uint8_t *hedge2type, size_t hedge2type_len,
+                                         float *hedge2dldr, size_t hedge2dldr_len,
+                                         uint8_t *vedge2type, size_t vedge2type_len,
+                                         float *vedge2dldr, size_t vedge2dldr_len);
+
+/* Adds to dldw_vtx2xyz, pair by pair, columns from the left and each from the top, first of the hedges and then of the
+ * vedges, what each pair of unlike pixels brings the corners of its faces: of the face in front, or of both where they
+ * cross. A vertex of no face in the map keeps its bits.
+ * Questions 1, 2, 3, 4, 6, 7, 8, 9: dldw_vtx2xyz as vtx2xyz, pix2val and dldw_pix2val num_vdim numbers a pixel; 9 asks of
+ * the weights of each point that a share is taken from. */
+uint32_t paqelzim_bwd(const uint32_t *tri2vtx, size_t tri2vtx_len,
+                      const float *vtx2xyz, size_t vtx2xyz_len,
+                      float *dldw_vtx2xyz, size_t dldw_vtx2xyz_len,
+                      const float *transform_world2pix,
+                      size_t img_w, size_t img_h,
+                      const uint32_t *pix2tri, size_t pix2tri_len,
+                      size_t num_vdim,
+                      const float *pix2val, size_t pix2val_len,
+                      const float *dldw_pix2val, size_t dldw_pix2val_len);
+
+/* Writes at each point of vtx2xy (two numbers, in pixels) the velocity between the edges of its cell, into vtx2velo.
+ * Questions 1 (width and height from 2), 3 (vtx2xy a multiple of 2, for at most 1,048,576 points), 4: hedge2vy has
+ * (img_h - 1) * img_w elements, vedge2vx img_h * (img_w - 1), vtx2velo as many as vtx2xy. */
+uint32_t paqelzim_interpolate_from_edges(size_t img_w, size_t img_h,
+                                         const float *hedge2vy, size_t hedge2vy_len,
+                                         const float *vedge2vx, size_t vedge2vx_len,
+                                         const float *vtx2xy, size_t vtx2xy_len,
+                                         float *vtx2velo, size_t vtx2velo_len);
+
+/* IEEE 754-2019 squareRoot, to nearest, ties to even. The root of -0 is -0, of a negative number NaN, of
+ * +infinity +infinity, of NaN NaN. */
+float paqelzim_sqrt_f32(float x);
+double paqelzim_sqrt_f64(double x);
+
+/* The nearest float, ties to even; subnormal results and overflow to infinity included, NaN to NaN. */
+float paqelzim_narrow_f64_to_f32(double x);
+
+/* Both widened, a*a + b*b in double, the root in double, narrowed: each step rounds to nearest even. */
+float paqelzim_hypot_f32(float a, float b);
+
+#ifdef __cplusplus
+}
+#endif
+
+#endif
