@@ -1,0 +1,211 @@
+//! The listed calls, over flat slices; the drawing with a first number.
+use crate::pass::{Pass, Velocities};
+use crate::scene::{Scene, EMPTY};
+use std::cell::Cell;
+use std::panic::{catch_unwind, AssertUnwindSafe};
+use std::sync::Once;
+
+thread_local! {
+    static QUIET: Cell<bool> = const { Cell::new(false) };
+}
+
+/// What a listed call leaves, or nothing where it panics, without a word.
+fn unless_it_panics<T>(call: impl FnOnce() -> T) -> Option<T> {
+    static HOOK: Once = Once::new();
+    HOOK.call_once(|| {
+        let loud = std::panic::take_hook();
+        std::panic::set_hook(Box::new(move |info| {
+            if !QUIET.get() {
+                loud(info);
+            }
+        }));
+    });
+    QUIET.set(true);
+    let answer = catch_unwind(AssertUnwindSafe(call)).ok();
+    QUIET.set(false);
+    answer
+}
+
+/// `pix2val` afterwards.
+pub fn interpolate(pass: &Pass) -> Option<Vec<f32>> {
+    unless_it_panics(|| {
+        let mut pix2val = pass.pix2val.clone();
+        crate::pix2tri::interpolate(
+            (pass.img_w, pass.img_h),
+            &pass.pix2tri,
+            pass.tri2vtx.as_chunks::<3>().0,
+            pass.vtx2xyz.as_chunks::<3>().0,
+            pass.num_vdim,
+            &pass.vtx2val,
+            &pass.transform_ndc2world,
+            &mut pix2val,
+        );
+        pix2val
+    })
+}
+
+/// `dldw_vtx2xyz` and `dldw_vtx2val` afterwards.
+pub fn interpolate_bwd(pass: &Pass) -> Option<[Vec<f32>; 2]> {
+    unless_it_panics(|| {
+        let mut dldw_vtx2xyz = pass.dldw_vtx2xyz.clone();
+        let mut dldw_vtx2val = pass.dldw_vtx2val.clone();
+        crate::pix2tri::interpolate_bwd(
+            (pass.img_w, pass.img_h),
+            &pass.pix2tri,
+            pass.tri2vtx.as_chunks::<3>().0,
+            pass.vtx2xyz.as_chunks::<3>().0,
+            pass.num_vdim,
+            &pass.vtx2val,
+            &pass.transform_ndc2world,
+            &pass.dldw_pix2val,
+            dldw_vtx2xyz.as_chunks_mut::<3>().0,
+            &mut dldw_vtx2val,
+        );
+        [dldw_vtx2xyz, dldw_vtx2val]
+    })
+}
+
+/// `hedge2type` and `vedge2type`, `hedge2dldr` and `vedge2dldr` afterwards.
+pub fn edge_gradient_and_type(pass: &Pass) -> Option<([Vec<u8>; 2], [Vec<f32>; 2])> {
+    unless_it_panics(|| {
+        let mut types = [pass.hedge2type.clone(), pass.vedge2type.clone()];
+        let mut dldrs = [pass.hedge2dldr.clone(), pass.vedge2dldr.clone()];
+        let ([hedge2type, vedge2type], [hedge2dldr, vedge2dldr]) = (&mut types, &mut dldrs);
+        crate::edgegrad::edge_gradient_and_type(
+            pass.tri2vtx.as_chunks::<3>().0,
+            pass.vtx2xyz.as_chunks::<3>().0,
+            &pass.transform_world2pix,
+            (pass.img_w, pass.img_h),
+            &pass.pix2tri,
+            pass.num_vdim,
+            &pass.pix2val,
+            &pass.dldw_pix2val,
+            hedge2type,
+            hedge2dldr,
+            vedge2type,
+            vedge2dldr,
+        );
+        (types, dldrs)
+    })
+}
+
+/// `bwd` of the unchanged file, or of the one in which each share takes its point from its own triangle.
+type Bwd = fn(
+    &[[u32; 3]],
+    &[[f32; 3]],
+    &mut [[f32; 3]],
+    &[f32; 16],
+    (usize, usize),
+    &[u32],
+    usize,
+    &[f32],
+    &[f32],
+);
+
+fn bwd_by(bwd: Bwd, pass: &Pass) -> Option<Vec<f32>> {
+    unless_it_panics(|| {
+        let mut dldw_vtx2xyz = pass.dldw_vtx2xyz.clone();
+        bwd(
+            pass.tri2vtx.as_chunks::<3>().0,
+            pass.vtx2xyz.as_chunks::<3>().0,
+            dldw_vtx2xyz.as_chunks_mut::<3>().0,
+            &pass.transform_world2pix,
+            (pass.img_w, pass.img_h),
+            &pass.pix2tri,
+            pass.num_vdim,
+            &pass.pix2val,
+            &pass.dldw_pix2val,
+        );
+        dldw_vtx2xyz
+    })
+}
+
+/// `dldw_vtx2xyz` afterwards, each share's point from its own triangle.
+pub fn bwd(pass: &Pass) -> Option<Vec<f32>> {
+    bwd_by(crate::edgegrad_own_points::bwd, pass)
+}
+
+/// The same by the file as it is listed.
+pub fn bwd_as_listed(pass: &Pass) -> Option<Vec<f32>> {
+    bwd_by(crate::edgegrad::bwd, pass)
+}
+
+/// `vtx2velo` afterwards.
+pub fn interpolate_from_edges(v: &Velocities) -> Option<Vec<f32>> {
+    unless_it_panics(|| {
+        let mut vtx2velo = v.vtx2velo.clone();
+        crate::edgegrad::interpolate_from_edges(
+            (v.img_w, v.img_h),
+            &v.hedge2vy,
+            &v.vedge2vx,
+            v.vtx2xy.as_chunks::<2>().0,
+            vtx2velo.as_chunks_mut::<2>().0,
+        );
+        vtx2velo
+    })
+}
+
+/// Map and depths after the listed Rust has drawn an accepted scene. It numbers faces from 0 and never reads the
+/// map, so it draws on an empty one: what is no longer empty was written.
+pub fn drawn(scene: &Scene) -> (Vec<u32>, Vec<f32>) {
+    let mut written = vec![EMPTY; scene.pix2tri.len()];
+    let mut depths = scene.pix2depth.clone();
+    del_geo_core::tri2_scanline::of_image(scene.img_w, scene.img_h);
+    crate::pix2tri::pix2tri_by_rasterization::<u32>(
+        &mut written,
+        &mut depths,
+        scene.tri2vtx.as_chunks::<3>().0,
+        scene.vtx2xyz.as_chunks::<3>().0,
+        (scene.img_w, scene.img_h),
+        &scene.transform_world2ndc,
+    );
+    let number = |(&old, &new): (&u32, &u32)| if new == EMPTY { old } else { new + scene.first };
+    let numbers = scene.pix2tri.iter().zip(&written).map(number).collect();
+    (numbers, depths)
+}
+
+/// Which way a face goes through the listed drawing.
+#[derive(Clone, Copy, Debug, PartialEq, Eq, PartialOrd, Ord)]
+pub enum Way {
+    Unprojectable,
+    Behind,
+    Unclipped,
+    Whole,
+    None,
+    /// One valid corner, and which.
+    One(usize),
+    /// Else two pieces, by which corner they leave out; how many corners are valid.
+    Two(usize, usize),
+}
+
+/// The way of each face of an accepted scene.
+pub fn ways(scene: &Scene) -> impl Iterator<Item = Way> + '_ {
+    let m = &scene.transform_world2ndc;
+    let vertices = scene.vtx2xyz.as_chunks::<3>().0;
+    let project =
+        |v: u32| del_geo_core::mat4_col_major::transform_homogeneous(m, &vertices[v as usize]);
+    let faces = scene.tri2vtx.as_chunks::<3>().0.iter();
+    faces.map(move |face| {
+        let [Some((p0, w0)), Some((p1, w1)), Some((p2, w2))] = face.map(project) else {
+            return Way::Unprojectable;
+        };
+        let t11 = m[11];
+        if t11 != 0.0 && [w0, w1, w2].iter().any(|w| w * t11 >= 0.0) {
+            return Way::Behind;
+        }
+        if t11 == 0.0 {
+            return Way::Unclipped;
+        }
+        let c = [(p0, w0), (p1, w1), (p2, w2)].map(|(p, w)| w * (p[2] - t11));
+        let valid = c.iter().filter(|&&c| c >= 0.0).count();
+        if valid == 3 {
+            Way::Whole
+        } else if c.iter().all(|&c| c < 0.0) {
+            Way::None
+        } else if valid == 1 {
+            Way::One(c.iter().position(|&c| c >= 0.0).unwrap())
+        } else {
+            Way::Two(c[..2].iter().position(|&c| c < 0.0).unwrap_or(2), valid)
+        }
+    })
+}

@@ -1,0 +1,174 @@
+/* Calls each function of include/paqelzim.h, as C11 and as C++17. Prints what differs; ends with 0 where
+ * nothing does. */
+#include "paqelzim.h"
+
+#include <stdint.h>
+#include <stdio.h>
+#include <string.h>
+
+static int wrong = 0;
+
+static uint32_t bits_of(float x) {
+    uint32_t bits;
+    memcpy(&bits, &x, sizeof bits);
+    return bits;
+}
+
+static float float_of(uint32_t bits) {
+    float x;
+    memcpy(&x, &bits, sizeof x);
+    return x;
+}
+
+static uint64_t wide_bits_of(double x) {
+    uint64_t bits;
+    memcpy(&bits, &x, sizeof bits);
+    return bits;
+}
+
+static double double_of(uint64_t bits) {
+    double x;
+    memcpy(&x, &bits, sizeof x);
+    return x;
+}
+
+static void expect(int holds, const char *what) {
+    if (!holds) {
+        printf("not so: %s\n", what);
+        wrong += 1;
+    }
+}
+
+static int is_nan(float x) { return x != x; }
+
+static void float_tools(void) {
+    expect(bits_of(paqelzim_sqrt_f32(2.0f)) == 0x3fb504f3u, "root of 2");
+    expect(bits_of(paqelzim_sqrt_f32(float_of(1))) == 0x1a3504f3u, "root of the smallest subnormal");
+    expect(bits_of(paqelzim_sqrt_f32(float_of(0x80000000u))) == 0x80000000u, "root of -0");
+    expect(is_nan(paqelzim_sqrt_f32(-1.0f)), "root of -1");
+    expect(bits_of(paqelzim_sqrt_f32(float_of(0x7f800000u))) == 0x7f800000u, "root of infinity");
+    expect(wide_bits_of(paqelzim_sqrt_f64(2.0)) == UINT64_C(0x3ff6a09e667f3bcd), "f64 root of 2");
+    expect(wide_bits_of(paqelzim_sqrt_f64(double_of(1))) == UINT64_C(0x1e60000000000000), "f64 root of the smallest subnormal");
+    expect(bits_of(paqelzim_narrow_f64_to_f32(double_of(UINT64_C(0x47effffff0000000)))) == 0x7f800000u, "overflow at the tie");
+    expect(bits_of(paqelzim_narrow_f64_to_f32(double_of(UINT64_C(0x47efffffefffffff)))) == 0x7f7fffffu, "below the tie");
+    expect(bits_of(paqelzim_narrow_f64_to_f32(double_of(UINT64_C(0x3690000000000000)))) == 0u, "half the smallest subnormal");
+    expect(bits_of(paqelzim_narrow_f64_to_f32(double_of(UINT64_C(0x3690000000000001)))) == 1u, "just above it");
+    expect(bits_of(paqelzim_hypot_f32(3.0f, 4.0f)) == 0x40a00000u, "hypot of 3 and 4");
+}
+
+/* Quiet and signalling NaNs of both signs, each payload digit alone. */
+static void nans(void) {
+    int place, sign;
+    for (sign = 0; sign < 2; sign += 1) {
+        for (place = 0; place < 23; place += 1) {
+            float x = float_of((uint32_t)sign << 31 | 0x7f800000u | (uint32_t)1 << place);
+            expect(is_nan(paqelzim_sqrt_f32(x)), "root of a NaN");
+            expect(is_nan(paqelzim_hypot_f32(x, 0.0f)), "hypot of a NaN and 0");
+            expect(is_nan(paqelzim_hypot_f32(1.0f, x)), "hypot of 1 and a NaN");
+        }
+        for (place = 0; place < 52; place += 1) {
+            double x = double_of((uint64_t)sign << 63 | UINT64_C(0x7ff0000000000000) | (uint64_t)1 << place);
+            double root = paqelzim_sqrt_f64(x);
+            expect(root != root, "f64 root of a NaN");
+            expect(is_nan(paqelzim_narrow_f64_to_f32(x)), "a NaN narrowed");
+        }
+    }
+}
+
+static void layers(void) {
+    uint32_t left[2] = {5, 6}, right[2] = {7, 8};
+    float left_depth[2], right_depth[2];
+    left_depth[0] = float_of(0x7fa00001u);
+    left_depth[1] = 0.25f;
+    right_depth[0] = 1.0f;
+    right_depth[1] = 0.5f;
+    expect(paqelzim_join(left, 2, left_depth, 2, right, 2, right_depth, 1, 2, 1) == 4, "a right layer one short");
+    expect(paqelzim_join(left, 2, left_depth, 2, right, 2, right_depth, 2, 2, 1) == 0, "joined");
+    expect(left[0] == 5 && bits_of(left_depth[0]) == 0x7fa00001u, "a NaN stays, with its number and payload");
+    expect(left[1] == 8 && left_depth[1] == 0.5f, "the greater depth is taken");
+    expect(paqelzim_clear(left, 2, left_depth, 2, 4097, 1) == 1, "too wide");
+    expect(left[1] == 8 && left_depth[1] == 0.5f, "a refusal writes nothing");
+    expect(paqelzim_clear(left, 2, left_depth, 2, 1, 2) == 0, "cleared");
+    expect(left[0] == 4294967295u && bits_of(left_depth[1]) == 0xff800000u, "empty");
+}
+
+static const uint32_t face[3] = {0, 1, 2};
+/* T(0.25) */
+static const float corners[9] = {-1.0f, -1.0f, 0.25f, 3.0f, -1.0f, 0.25f, -1.0f, 3.0f, 0.25f};
+static const float identity[16] = {1, 0, 0, 0, 0, 1, 0, 0, 0, 0, 1, 0, 0, 0, 0, 1};
+
+/* Vertex values 0, 8, 16 on 2 x 2: pixel 0 is 7. */
+static void values(void) {
+    const uint32_t map[4] = {0, 0, 0, 4294967295u};
+    const float vertex_values[3] = {0.0f, 8.0f, 16.0f};
+    float pixels[4] = {-1.0f, -1.0f, -1.0f, 0.0f};
+    pixels[3] = float_of(0x7fa00001u);
+    expect(paqelzim_interpolate(2, 2, map, 4, face, 3, corners, 9, 0, vertex_values, 3, identity, pixels, 4) == 2, "no channels");
+    expect(paqelzim_interpolate(2, 2, map, 4, face, 3, corners, 9, 1, vertex_values, 3, identity, pixels, 4) == 0, "interpolated");
+    expect(pixels[0] == 7.0f, "pixel 0 is 7");
+    expect(bits_of(pixels[3]) == 0x7fa00001u, "an empty pixel keeps its bits");
+}
+
+/* 2 x 1, one channel, values 1 and 0, incoming 1 and 1: map 0 and empty, then both empty. */
+static void edges(void) {
+    uint32_t map[2] = {0, 4294967295u};
+    const float pixels[2] = {1.0f, 0.0f}, incoming[2] = {1.0f, 1.0f};
+    uint8_t none_type[1] = {9}, type[1] = {9};
+    float none_dldr[1] = {9.0f}, dldr[1] = {9.0f};
+    expect(paqelzim_edge_gradient_and_type(face, 3, corners, 9, identity, 2, 1, map, 2, 1, pixels, 2, incoming, 2,
+                                           none_type, 0, none_dldr, 0, type, 1, dldr, 1) == 0, "edges");
+    expect(type[0] == 1 && dldr[0] == 1.0f, "type 1, dldr 1");
+    map[0] = 4294967295u;
+    expect(paqelzim_edge_gradient_and_type(face, 3, corners, 9, identity, 2, 1, map, 2, 1, pixels, 2, incoming, 2,
+                                           none_type, 0, none_dldr, 0, type, 1, dldr, 1) == 0, "edges of an empty map");
+    expect(type[0] == 0 && dldr[0] == 1.0f, "type 0, dldr 1");
+    expect(none_type[0] == 9 && none_dldr[0] == 9.0f, "nothing beside the slices is written");
+}
+
+/* 3 x 1: the face ends between pixels 1 and 2, and the gradient 1 goes to its corners by the weights of pixel 1's
+ * centre, 0, 5/8 and 3/8. */
+static void edges_backward(void) {
+    const uint32_t map[3] = {0, 0, 4294967295u};
+    const float pixels[3] = {1.0f, 1.0f, 0.0f}, incoming[3] = {1.0f, 1.0f, 1.0f};
+    float sums[9] = {0, 0, 0, 0, 0, 0, 0, 0, 0};
+    expect(paqelzim_bwd(face, 3, corners, 9, sums, 8, identity, 3, 1, map, 3, 1, pixels, 3, incoming, 3) == 4, "sums one short");
+    expect(paqelzim_bwd(face, 3, corners, 9, sums, 9, identity, 3, 1, map, 3, 1, pixels, 3, incoming, 3) == 0, "edges backward");
+    expect(sums[0] == 0.0f && sums[3] == 0.625f && sums[6] == 0.375f, "shares 0, 5/8, 3/8 along x");
+    expect(sums[1] == 0.0f && sums[4] == 0.0f && sums[8] == 0.0f, "nothing along y and z");
+}
+
+/* 2 x 2, every edge with velocity 3: so has a point anywhere; a width of 1 is refused. */
+static void velocities(void) {
+    const float along[2] = {3.0f, 3.0f}, point[2] = {1.25f, -7.0f};
+    float velocity[2] = {0.0f, 0.0f};
+    expect(paqelzim_interpolate_from_edges(1, 2, along, 1, along, 0, point, 2, velocity, 2) == 1, "a width of 1");
+    expect(paqelzim_interpolate_from_edges(2, 2, along, 2, along, 2, point, 2, velocity, 2) == 0, "velocities");
+    expect(velocity[0] == 3.0f && velocity[1] == 3.0f, "velocity 3");
+}
+
+/* T(0.25) on a clear layer of 2 x 2; a face that names vertex 3 of three. */
+static void drawing(void) {
+    const uint32_t bad[3] = {0, 1, 3};
+    uint32_t pix2tri[4];
+    float pix2depth[4];
+    int p;
+    expect(paqelzim_clear(pix2tri, 4, pix2depth, 4, 2, 2) == 0, "cleared");
+    expect(paqelzim_pix2tri_by_rasterization(pix2tri, 4, pix2depth, 4, bad, 3, corners, 9, 2, 2, identity, 0) == 6, "names 3");
+    expect(pix2tri[0] == 4294967295u, "a refused drawing writes nothing");
+    expect(paqelzim_pix2tri_by_rasterization(pix2tri, 4, pix2depth, 4, face, 3, corners, 9, 2, 2, identity, 7) == 0, "drawn");
+    for (p = 0; p < 4; p += 1) {
+        expect(pix2tri[p] == 7 && pix2depth[p] == 0.25f, "four pixels");
+    }
+}
+
+int main(void) {
+    float_tools();
+    nans();
+    layers();
+    values();
+    edges();
+    edges_backward();
+    velocities();
+    drawing();
+    return wrong == 0 ? 0 : 1;
+}
