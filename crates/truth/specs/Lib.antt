@@ -3,4 +3,6 @@ pub mod Laws
 pub mod Ring
 pub mod Solve
 pub mod Dual
+pub mod Moving
 pub mod Meeting
+pub mod Shares

@@ -67,3 +67,7 @@ module _ {A : Type 0} (R : Arith A) (L : Laws R) where
 
   pub cancelled : {a b c : A} → b ⊗ (one ⊘ b) ≡ one → c ≡ a ⊗ b → c ⊘ b ≡ a
   cancelled {a} {b} {c} h e = div-is c b ∙ ap (λ x. x ⊗ (one ⊘ b)) e ∙ mul-assoc a b (one ⊘ b) ∙ ap (λ x. a ⊗ x) h ∙ mul-one a
+
+  -- an equation that differs from another, one that holds, by what cancels
+  pub moved : {a b c d : A} → c ≡ d → a ⊖ b ≡ d ⊖ c → a ≡ b
+  moved {a} {b} {c} {d} h e = same-of-sub a b (e ∙ sub-self d c (sym h))

@@ -44,6 +44,9 @@ eval R ρ (:- a) = R .neg (eval R ρ a)
 abbrev pub from : {A : Type 0} → Arith A → List A → ℕ → A
 from R xs n = getD xs n (R .zero)
 
+pub same3 : {A : Type 0} {a b : Vec3 A} → a .x ≡ b .x → a .y ≡ b .y → a .z ≡ b .z → a ≡ b
+same3 p q r = λ i. vec3 (p i) (q i) (r i)
+
 infixr 67 _∷₃_
 abbrev pub _∷₃_ : {A : Type 0} → Vec3 A → List A → List A
 a ∷₃ xs = a .x ∷ a .y ∷ a .z ∷ xs
@@ -296,7 +299,3 @@ module _ {A : Type 0} (R : Arith A) (L : Laws R) (ρ : ℕ → A) where
   pub by-ring : (a b : Expr) → Equal a b → eval R ρ a ≡ eval R ρ b
   unfolding Equal eval value
   by-ring a b e = same-of-sub R L (eval R ρ a) (eval R ρ b) (sym (sound (a :- b)) ∙ ap value e)
-
-  pub by-ring3 : (a b : Vec3 Expr) → Equal (a .x) (b .x) → Equal (a .y) (b .y) → Equal (a .z) (b .z)
-      → vec3 (eval R ρ (a .x)) (eval R ρ (a .y)) (eval R ρ (a .z)) ≡ vec3 (eval R ρ (b .x)) (eval R ρ (b .y)) (eval R ρ (b .z))
-  by-ring3 a b p q r = λ i. vec3 (by-ring (a .x) (b .x) p i) (by-ring (a .y) (b .y) q i) (by-ring (a .z) (b .z) r i)

@@ -1,0 +1,26 @@
+-- Points that move: each coordinate with its movement at ε. Rays and incoming gradients do not move.
+use Rattle.geometry.specs.Arith.{Arith}
+use Rattle.geometry.specs.Vector.{Vec3, vec3, Triangle, triangle}
+use Rattle.rays.specs.Space.{Ray, ray, dot3}
+use Rattle.truth.specs.Dual.{Dual, dual, still}
+
+-- a point and its movement
+abbrev pub moving3 : {A : Type 0} → Vec3 A → Vec3 A → Vec3 (Dual A)
+moving3 a m = vec3 (dual (a .x) (m .x)) (dual (a .y) (m .y)) (dual (a .z) (m .z))
+
+abbrev pub moving : {A : Type 0} → Triangle (Vec3 A) → Triangle (Vec3 A) → Triangle (Vec3 (Dual A))
+moving p m = triangle (moving3 (p .p0) (m .p0)) (moving3 (p .p1) (m .p1)) (moving3 (p .p2) (m .p2))
+
+module _ {A : Type 0} (R : Arith A) where
+  open Arith R using (add as _⊕_)
+
+  infixl 6 _⊕_
+  abbrev pub still3 : Vec3 A → Vec3 (Dual A)
+  still3 a = vec3 (still R (a .x)) (still R (a .y)) (still R (a .z))
+
+  abbrev pub stillRay : Ray A → Ray (Dual A)
+  stillRay r = ray (still3 (r .org)) (still3 (r .dir))
+
+  -- ⟨g, m⟩: what the gradients of three corners say of the corners' movement
+  unfoldable pub inner : Triangle (Vec3 A) → Triangle (Vec3 A) → A
+  inner g m = dot3 R (g .p0) (m .p0) ⊕ dot3 R (g .p1) (m .p1) ⊕ dot3 R (g .p2) (m .p2)
