@@ -6,3 +6,6 @@ pub mod Dual
 pub mod Moving
 pub mod Meeting
 pub mod Shares
+pub mod Pixel
+pub mod Loss
+pub mod Ties

@@ -1,4 +1,5 @@
 -- Points that move: each coordinate with its movement at ε. Rays and incoming gradients do not move.
+use Prim.Native.Nat.{ℕ}
 use Rattle.geometry.specs.Arith.{Arith}
 use Rattle.geometry.specs.Vector.{Vec3, vec3, Triangle, triangle}
 use Rattle.rays.specs.Space.{Ray, ray, dot3}
@@ -10,6 +11,10 @@ moving3 a m = vec3 (dual (a .x) (m .x)) (dual (a .y) (m .y)) (dual (a .z) (m .z)
 
 abbrev pub moving : {A : Type 0} → Triangle (Vec3 A) → Triangle (Vec3 A) → Triangle (Vec3 (Dual A))
 moving p m = triangle (moving3 (p .p0) (m .p0)) (moving3 (p .p1) (m .p1)) (moving3 (p .p2) (m .p2))
+
+-- the three corners' values, channel by channel, and their movement
+abbrev pub movingValues : {A : Type 0} → Triangle (ℕ → A) → Triangle (ℕ → A) → Triangle (ℕ → Dual A)
+movingValues x y = triangle (λ j. dual (x .p0 j) (y .p0 j)) (λ j. dual (x .p1 j) (y .p1 j)) (λ j. dual (x .p2 j) (y .p2 j))
 
 module _ {A : Type 0} (R : Arith A) where
   open Arith R using (add as _⊕_)
