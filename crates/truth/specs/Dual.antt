@@ -54,7 +54,7 @@ module _ {A : Type 0} (R : Arith A) (L : Laws R) where
   by-rings ρ a b p q = both (by-ring R L ρ (a .re) (b .re) p) (by-ring R L ρ (a .eps) (b .eps) q)
 
   -- a quotient as a product with 1 / b
-  quotient : (a b : Dual A) → duals R .div a b ≡ duals (fixed R (one ⊘ b .re)) .div a b
+  pub quotient : (a b : Dual A) → duals R .div a b ≡ duals (fixed R (one ⊘ b .re)) .div a b
   quotient a b = both (L .div-is _ _) (L .div-is _ _ ∙ ap (λ q. (a .eps ⊖ q ⊗ b .eps) ⊗ (one ⊘ b .re)) (L .div-is _ _))
 
   pub dual-laws : Laws (duals R)

@@ -8,4 +8,5 @@ pub mod Meeting
 pub mod Shares
 pub mod Pixel
 pub mod Loss
+pub mod Projection
 pub mod Ties

@@ -1,7 +1,7 @@
 -- Points that move: each coordinate with its movement at ε. Rays and incoming gradients do not move.
 use Prim.Native.Nat.{ℕ}
 use Rattle.geometry.specs.Arith.{Arith}
-use Rattle.geometry.specs.Vector.{Vec3, vec3, Triangle, triangle}
+use Rattle.geometry.specs.Vector.{Vec3, vec3, Weights, weights, Triangle, triangle}
 use Rattle.rays.specs.Space.{Ray, ray, dot3}
 use Rattle.truth.specs.Dual.{Dual, dual, still}
 
@@ -22,6 +22,9 @@ module _ {A : Type 0} (R : Arith A) where
   infixl 6 _⊕_
   abbrev pub still3 : Vec3 A → Vec3 (Dual A)
   still3 a = vec3 (still R (a .x)) (still R (a .y)) (still R (a .z))
+
+  abbrev pub stillWeights : Weights A → Weights (Dual A)
+  stillWeights b = weights (still R (b .b0)) (still R (b .b1)) (still R (b .b2))
 
   abbrev pub stillRay : Ray A → Ray (Dual A)
   stillRay r = ray (still3 (r .org)) (still3 (r .dir))

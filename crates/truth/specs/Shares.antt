@@ -19,14 +19,14 @@ module _ {A : Type 0} (R : Arith A) (L : Laws R) where
 
   infixl 7 _⊘_
   -- the shares of g, against the movement of the point that the weights make
-  shared-out : (b : Weights A) (g : Vec3 A) (m : Triangle (Vec3 A)) → inner R (shares R b g) m ≡ dot3 R (pointFrom R b (m .p0) (m .p1) (m .p2)) g
+  pub shared-out : (b : Weights A) (g : Vec3 A) (m : Triangle (Vec3 A)) → inner R (shares R b g) m ≡ dot3 R g (pointFrom R b (m .p0) (m .p1) (m .p2))
   unfolding Equal eval inner shares scaled3 pointFrom blend dot3
   shared-out b g m =
       let E = exprs :0 in
       let w = weights (var 0) (var 1) (var 2) in
       let corners = triangle (var3 6) (var3 9) (var3 12) in
       by-ring R L (from R (b .b0 ∷ b .b1 ∷ b .b2 ∷ g ∷₃ m .p0 ∷₃ m .p1 ∷₃ m .p2 ∷₃ []))
-      (inner E (shares E w (var3 3)) corners) (dot3 E (pointFrom E w (var3 6) (var3 9) (var3 12)) (var3 3)) refl
+      (inner E (shares E w (var3 3)) corners) (dot3 E (var3 3) (pointFrom E w (var3 6) (var3 9) (var3 12))) refl
 
   gradient-is : (f : Frame A) (dt du dv : A) → gradient R f dt du dv ≡ gradient (fixed R (one ⊘ f .det)) f dt du dv
   unfolding gradient gradientOn
@@ -44,16 +44,16 @@ module _ {A : Type 0} (R : Arith A) (L : Laws R) where
   infixl 7 _⊘_
   -- Cramer's rule: g tells t, u and v apart
   told-apart : (t u v dt du dv : A) (d e1 e2 : Vec3 A) → Invertible R (framed R d e1 e2 .det)
-      → dot3 R (within R t u v d e1 e2) (gradient R (framed R d e1 e2) dt du dv) ≡ dt ⊗ t ⊕ du ⊗ u ⊕ dv ⊗ v
+      → dot3 R (gradient R (framed R d e1 e2) dt du dv) (within R t u v d e1 e2) ≡ dt ⊗ t ⊕ du ⊗ u ⊕ dv ⊗ v
   unfolding Equal eval within framed gradient gradientOn minus3 scaled3 dot3 cross3
   told-apart t u v dt du dv d e1 e2 h =
       let E = exprs (var 15) in
       let f = framed E (var3 6) (var3 9) (var3 12) in
       let w = var 3 :* var 0 :+ var 4 :* var 1 :+ var 5 :* var 2 in
-      ap (dot3 R (within R t u v d e1 e2)) (gradient-is R L (framed R d e1 e2) dt du dv)
+      ap (λ g. dot3 R g (within R t u v d e1 e2)) (gradient-is R L (framed R d e1 e2) dt du dv)
       ∙ gap R L (dt ⊗ t ⊕ du ⊗ u ⊕ dv ⊗ v) h
       (by-ring R L (from R (t ∷ u ∷ v ∷ dt ∷ du ∷ dv ∷ d ∷₃ e1 ∷₃ e2 ∷₃ (one ⊘ framed R d e1 e2 .det) ∷ []))
-      (dot3 E (within E (var 0) (var 1) (var 2) (var3 6) (var3 9) (var3 12)) (gradient E f (var 3) (var 4) (var 5)))
+      (dot3 E (gradient E f (var 3) (var 4) (var 5)) (within E (var 0) (var 1) (var 2) (var3 6) (var3 9) (var3 12)))
       (w :+ w :* (f .det :* var 15 :- :1)) refl)
 
   -- one coordinate of the two points that are the same while they move
@@ -115,5 +115,5 @@ module _ {A : Type 0} (R : Arith A) (L : Laws R) where
     unfolding planeBackward backwardOn shared frameOf framed
     shares-true dt du dv =
         sym (shared-out R L (weighted R (u R p r) (v R p r)) (gradient R (frameOf R p r) dt du dv) m
-        ∙ ap (λ q. dot3 R q (gradient R (frameOf R p r) dt du dv)) moves
+        ∙ ap (dot3 R (gradient R (frameOf R p r) dt du dv)) moves
         ∙ told-apart t' u' v' dt du dv (r .dir) (minus3 R (p .p1) (p .p0)) (minus3 R (p .p2) (p .p0)) h)
