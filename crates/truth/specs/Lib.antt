@@ -9,4 +9,6 @@ pub mod Shares
 pub mod Pixel
 pub mod Loss
 pub mod Projection
+pub mod Image
+pub mod Pass
 pub mod Ties
