@@ -4,8 +4,7 @@ use mathlib.Core.Path.{_≡_, refl, sym, _∙_, ap}
 use mathlib.Core.List.{List, [], _∷_}
 use Rattle.geometry.specs.Arith.{Arith}
 use Rattle.truth.specs.Laws.{Laws, Invertible}
-use Rattle.truth.specs.Ring.{gap}
-use Rattle.truth.specs.Solve.{Expr, var, :0, :1, _:+_, _:-_, _:*_, :-_, exprs, fixed, from, eval, Equal, by-ring}
+use Rattle.truth.specs.Solve.{Expr, var, :0, :1, _:+_, _:-_, _:*_, :-_, exprs, fixed, from, eval, Equal, by-ring, by-premise}
 
 pub record Dual (A : Type 0) : Type 0 where
   pub re : A
@@ -92,5 +91,4 @@ module _ {A : Type 0} (R : Arith A) (L : Laws R) where
       let y = varD 0 in
       both h
       (ap (λ x. duals R .mul b x .eps) (quotient (duals R .one) b)
-      ∙ gap R L (R .neg (b .eps ⊗ i)) h
-      (by-ring R L (from R (b .re ∷ b .eps ∷ i ∷ [])) (F .mul y (F .div (F .one) y) .eps) (:0 :+ :- (var 1 :* var 2) :* (var 0 :* var 2 :- :1)) refl))
+      ∙ by-premise R L (from R (b .re ∷ b .eps ∷ i ∷ [])) (F .mul y (F .div (F .one) y) .eps) :0 (:- (var 1 :* var 2)) (var 0 :* var 2) :1 h refl)

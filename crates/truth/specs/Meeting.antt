@@ -9,8 +9,8 @@ use Rattle.rays.specs.Space.{Ray, ray, minus3, dot3, cross3, along3}
 use Rattle.rays.specs.Plane.{normal, distance, hit, weight, weightsAt, weightsOn, planeWeights}
 use Rattle.rays.specs.Backward.{Frame, framed, frameOf, meetsT, meetsU, meetsV, weighted, shared, backwardOn, planeBackward}
 use Rattle.truth.specs.Laws.{Laws, Invertible}
-use Rattle.truth.specs.Ring.{gap, cancelled}
-use Rattle.truth.specs.Solve.{Expr, var, :0, :1, _:+_, _:-_, _:*_, _∷₃_, var3, exprs, fixed, from, eval, Equal, by-ring}
+use Rattle.truth.specs.Ring.{cancelled}
+use Rattle.truth.specs.Solve.{Expr, var, :0, :1, _:+_, _:-_, _:*_, _∷₃_, var3, exprs, fixed, from, eval, Equal, by-ring, by-premise}
 
 -- ---- the backward formula's D, t, u and v, and the forward one's n·n
 
@@ -66,14 +66,13 @@ module _ {A : Type 0} (R : Arith A) (L : Laws R) (p : Triangle (Vec3 A)) (r : Ra
   unfolding Equal eval meetsT meetsU meetsV weighted frameOf framed minus3 dot3 cross3 along3 pointFrom blend
   meets-fixed =
       let ρ = from R (p .p0 ∷₃ p .p1 ∷₃ p .p2 ∷₃ r .org ∷₃ r .dir ∷₃ (one ⊘ D R p r) ∷ []) in
-      let s = minus3 R (p .p0) (r .org) in
       let a = along3 E line (t E corners line) in
       let b = pointFrom E (weighted E (u E corners line) (v E corners line)) (var3 0) (var3 3) (var3 6) in
-      let k = D E corners line :* var 15 :- :1 in
+      let k = D E corners line :* var 15 in
       λ j.
-      vec3 (gap R L (s .x) h (by-ring R L ρ (a .x) (b .x :+ (var 0 :- var 9) :* k) refl) j)
-      (gap R L (s .y) h (by-ring R L ρ (a .y) (b .y :+ (var 1 :- var 10) :* k) refl) j)
-      (gap R L (s .z) h (by-ring R L ρ (a .z) (b .z :+ (var 2 :- var 11) :* k) refl) j)
+      vec3 (by-premise R L ρ (a .x) (b .x) (var 0 :- var 9) k :1 h refl j)
+      (by-premise R L ρ (a .y) (b .y) (var 1 :- var 10) k :1 h refl j)
+      (by-premise R L ρ (a .z) (b .z) (var 2 :- var 11) k :1 h refl j)
 
   -- Where D can be divided by, the ray's point o + t d is the point that the backward formula's weights make of the corners, p0 + u e1 + v e2.
   pub meets : along3 R r (t R p r) ≡ pointFrom R (weighted R (u R p r) (v R p r)) (p .p0) (p .p1) (p .p2)

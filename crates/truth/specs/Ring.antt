@@ -61,13 +61,5 @@ module _ {A : Type 0} (R : Arith A) (L : Laws R) where
   pub same-of-sub : (a b : A) → a ⊖ b ≡ zero → a ≡ b
   same-of-sub a b e = sym (neg-neg a) ∙ ap neg (sym (opposite a (neg b) (sym (sub-is a b) ∙ e))) ∙ neg-neg b
 
-  -- an equation up to a multiple of k - 1, where k is 1
-  pub gap : {a b k : A} (c : A) → k ≡ one → a ≡ b ⊕ c ⊗ (k ⊖ one) → a ≡ b
-  gap {a} {b} {k} c h e = e ∙ ap (λ x. b ⊕ c ⊗ x) (sub-self k one h) ∙ ap (λ x. b ⊕ x) (mul-zero c) ∙ add-zero b
-
   pub cancelled : {a b c : A} → b ⊗ (one ⊘ b) ≡ one → c ≡ a ⊗ b → c ⊘ b ≡ a
   cancelled {a} {b} {c} h e = div-is c b ∙ ap (λ x. x ⊗ (one ⊘ b)) e ∙ mul-assoc a b (one ⊘ b) ∙ ap (λ x. a ⊗ x) h ∙ mul-one a
-
-  -- an equation that differs from another, one that holds, by what cancels
-  pub moved : {a b c d : A} → c ≡ d → a ⊖ b ≡ d ⊖ c → a ≡ b
-  moved {a} {b} {c} {d} h e = same-of-sub a b (e ∙ sub-self d c (sym h))

@@ -8,8 +8,7 @@ use Rattle.geometry.specs.Formula.{blend, pointFrom}
 use Rattle.rays.specs.Space.{Ray, minus3, dot3, cross3, scaled3, along3}
 use Rattle.rays.specs.Backward.{Frame, framed, frameOf, meetsT, meetsU, meetsV, weighted, gradientOn, gradient, shares, shared, backwardOn, planeBackward}
 use Rattle.truth.specs.Laws.{Laws, Invertible}
-use Rattle.truth.specs.Ring.{gap, moved}
-use Rattle.truth.specs.Solve.{same3, Expr, var, :0, :1, _:+_, _:-_, _:*_, _∷₃_, var3, exprs, fixed, from, eval, Equal, by-ring}
+use Rattle.truth.specs.Solve.{same3, Expr, var, :0, :1, _:+_, _:-_, _:*_, :-_, _∷₃_, var3, exprs, fixed, from, eval, Equal, by-ring, by-premise}
 use Rattle.truth.specs.Dual.{Dual, dual, duals, still, dual-laws, dual-invertible}
 use Rattle.truth.specs.Moving.{moving, stillRay, inner}
 use Rattle.truth.specs.Meeting.{D, t, u, v, meets}
@@ -51,10 +50,8 @@ module _ {A : Type 0} (R : Arith A) (L : Laws R) where
       let f = framed E (var3 6) (var3 9) (var3 12) in
       let w = var 3 :* var 0 :+ var 4 :* var 1 :+ var 5 :* var 2 in
       ap (λ g. dot3 R g (within R t u v d e1 e2)) (gradient-is R L (framed R d e1 e2) dt du dv)
-      ∙ gap R L (dt ⊗ t ⊕ du ⊗ u ⊕ dv ⊗ v) h
-      (by-ring R L (from R (t ∷ u ∷ v ∷ dt ∷ du ∷ dv ∷ d ∷₃ e1 ∷₃ e2 ∷₃ (one ⊘ framed R d e1 e2 .det) ∷ []))
-      (dot3 E (gradient E f (var 3) (var 4) (var 5)) (within E (var 0) (var 1) (var 2) (var3 6) (var3 9) (var3 12)))
-      (w :+ w :* (f .det :* var 15 :- :1)) refl)
+      ∙ by-premise R L (from R (t ∷ u ∷ v ∷ dt ∷ du ∷ dv ∷ d ∷₃ e1 ∷₃ e2 ∷₃ (one ⊘ framed R d e1 e2 .det) ∷ []))
+      (dot3 E (gradient E f (var 3) (var 4) (var 5)) (within E (var 0) (var 1) (var 2) (var3 6) (var3 9) (var3 12))) w w (f .det :* var 15) :1 h refl
 
   -- one coordinate of the two points that are the same while they move
   follows : (o d p0 p1 p2 m0 m1 m2 : A) (t u v : Dual A)
@@ -64,11 +61,11 @@ module _ {A : Type 0} (R : Arith A) (L : Laws R) where
   follows o d p0 p1 p2 m0 m1 m2 t u v h =
       let E = exprs :0 in
       let F = duals E in
-      moved R L h
-      (by-ring R L (from R (o ∷ d ∷ p0 ∷ p1 ∷ p2 ∷ m0 ∷ m1 ∷ m2 ∷ t .re ∷ t .eps ∷ u .re ∷ u .eps ∷ v .re ∷ v .eps ∷ []))
-      (blend E (weighted E (var 10) (var 12)) (var 5) (var 6) (var 7) :- (var 9 :* var 1 :- var 11 :* (var 3 :- var 2) :- var 13 :* (var 4 :- var 2)))
-      (blend F (weighted F (dual (var 10) (var 11)) (dual (var 12) (var 13))) (dual (var 2) (var 5)) (dual (var 3) (var 6)) (dual (var 4) (var 7)) .eps
-      :- F .add (still E (var 0)) (F .mul (dual (var 8) (var 9)) (still E (var 1))) .eps) refl)
+      by-premise R L (from R (o ∷ d ∷ p0 ∷ p1 ∷ p2 ∷ m0 ∷ m1 ∷ m2 ∷ t .re ∷ t .eps ∷ u .re ∷ u .eps ∷ v .re ∷ v .eps ∷ []))
+      (blend E (weighted E (var 10) (var 12)) (var 5) (var 6) (var 7)) (var 9 :* var 1 :- var 11 :* (var 3 :- var 2) :- var 13 :* (var 4 :- var 2))
+      (:- :1)
+      (F .add (still E (var 0)) (F .mul (dual (var 8) (var 9)) (still E (var 1))) .eps)
+      (blend F (weighted F (dual (var 10) (var 11)) (dual (var 12) (var 13))) (dual (var 2) (var 5)) (dual (var 3) (var 6)) (dual (var 4) (var 7)) .eps) h refl
 
   module _ (p m : Triangle (Vec3 A)) (r : Ray A) (h : Invertible R (D R p r)) where
     abbrev P : Triangle (Vec3 (Dual A))

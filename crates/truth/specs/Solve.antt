@@ -9,7 +9,7 @@ use lib.ListN.{getD}
 use Rattle.geometry.specs.Arith.{Arith}
 use Rattle.geometry.specs.Vector.{Vec3, vec3}
 use Rattle.truth.specs.Laws.{Laws}
-use Rattle.truth.specs.Ring.{zero-add, add-left-comm, neg-neg, neg-zero, neg-add, mul-zero, zero-mul, add-mul, mul-neg, neg-mul, same-of-sub}
+use Rattle.truth.specs.Ring.{zero-add, add-left-comm, neg-neg, neg-zero, neg-add, mul-zero, zero-mul, add-mul, mul-neg, neg-mul, sub-self, same-of-sub}
 
 -- ---- formulas as trees
 
@@ -299,3 +299,10 @@ module _ {A : Type 0} (R : Arith A) (L : Laws R) (ρ : ℕ → A) where
   pub by-ring : (a b : Expr) → Equal a b → eval R ρ a ≡ eval R ρ b
   unfolding Equal eval value
   by-ring a b e = same-of-sub R L (eval R ρ a) (eval R ρ b) (sym (sound (a :- b)) ∙ ap value e)
+
+  -- from an equation x = y that holds: a - b is a multiple of x - y
+  pub by-premise : (a b c x y : Expr) → eval R ρ x ≡ eval R ρ y → Equal (a :- b) (c :* (x :- y)) → eval R ρ a ≡ eval R ρ b
+  unfolding eval
+  by-premise a b c x y h e =
+      same-of-sub R L (eval R ρ a) (eval R ρ b)
+      (by-ring (a :- b) (c :* (x :- y)) e ∙ ap (λ z. eval R ρ c ⊗ z) (sub-self R L (eval R ρ x) (eval R ρ y) h) ∙ mul-zero R L (eval R ρ c))
