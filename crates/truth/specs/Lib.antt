@@ -12,3 +12,6 @@ pub mod Projection
 pub mod Image
 pub mod Pass
 pub mod Ties
+pub mod Integers
+pub mod Rationals
+pub mod Examples
