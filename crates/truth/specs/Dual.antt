@@ -1,10 +1,10 @@
 -- Dual numbers: a + a'ε with ε² = 0. A formula at dual numbers gives its value and, at ε, its derivative along the movement of its arguments. No limits.
 use Prim.Native.Nat.{ℕ, _+_}
 use mathlib.Core.Path.{_≡_, refl, sym, _∙_, ap}
-use mathlib.Core.List.{List, [], _∷_}
+use mathlib.Core.List.{[], _∷_}
 use Rattle.geometry.specs.Arith.{Arith}
 use Rattle.truth.specs.Laws.{Laws, Invertible}
-use Rattle.truth.specs.Solve.{Expr, var, :0, :1, _:+_, _:-_, _:*_, :-_, exprs, fixed, from, eval, Equal, by-ring, by-premise}
+use Rattle.truth.specs.Solve.{Expr, var, :0, :1, _:-_, _:*_, :-_, exprs, fixed, from, eval, Equal, by-ring, by-premise}
 
 pub record Dual (A : Type 0) : Type 0 where
   pub re : A

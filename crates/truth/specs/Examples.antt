@@ -1,21 +1,21 @@
 -- The theorems at the rational numbers: the example of 01 whose pixel 0 is 7, exactly, and its gradients.
-use Prim.Native.Nat.{ℕ, suc}
-use mathlib.Core.Path.{_≡_, refl}
-use lib.IntN.{ℤ, pos, negsuc}
-use Rattle.geometry.specs.Vector.{Vec3, vec3, Weights, weights, Triangle, triangle}
+use Prim.Native.Nat.{ℕ}
+use mathlib.Core.Path.{_≡_, refl, _∙_, ap}
+use lib.IntN.{pos, negsuc}
+use Rattle.geometry.specs.Vector.{Vec3, vec3, Triangle, triangle}
 use Rattle.geometry.specs.Formula.{blend}
-use Rattle.rays.specs.Space.{Ray, ray, minus3, dot3, cross3, scaled3, along3}
-use Rattle.rays.specs.Plane.{normal, distance, hit, weight, weightsAt, weightsOn, planeWeights}
+use Rattle.rays.specs.Space.{Ray, ray, minus3, dot3, cross3, scaled3}
+use Rattle.rays.specs.Plane.{normal}
 use Rattle.rays.specs.Backward.{framed, frameOf, meetsU, meetsV, weighted, gradientOn, gradient, shares, shared, backwardOn, planeBackward}
 use Rattle.values_bwd.specs.Gather.{gathered}
 use Rattle.truth.specs.Laws.{Invertible}
 use Rattle.truth.specs.Solve.{same3}
 use Rattle.truth.specs.Rationals.{ℚ, over, alike, rationals, rational-laws, divides-by}
 use Rattle.truth.specs.Pixel.{valueAt, loss, incoming, backward, gradientsAt, innerValues}
-use Rattle.truth.specs.Dual.{Dual, duals, still}
+use Rattle.truth.specs.Dual.{duals, still}
 use Rattle.truth.specs.Moving.{moving, movingValues, stillRay, inner}
 use Rattle.truth.specs.Loss.{loss-true}
-use Rattle.truth.specs.Meeting.{D, n·n}
+use Rattle.truth.specs.Meeting.{D, n·n, weights-agree}
 
 -- n and -(n + 1)
 abbrev whole : ℕ → ℚ
@@ -56,9 +56,12 @@ values = triangle (λ j. whole 0) (λ j. whole 8) (λ j. whole 16)
 abbrev incoming1 : ℕ → ℚ
 incoming1 j = whole 1
 
+-- the forward weights by way of the backward ones, which are the same
 pub pixel-is-7 : valueAt rationals T line values 0 ≡ whole 7
-unfolding valueAt blend planeWeights weightsOn weightsAt weight hit distance along3 normal minus3 dot3 cross3
-pixel-is-7 = alike _ _ refl
+unfolding valueAt blend planeBackward backwardOn shared weighted meetsU meetsV frameOf framed minus3 dot3 cross3
+pixel-is-7 =
+    ap (λ b. blend rationals b (whole 0) (whole 8) (whole 16)) (weights-agree rationals rational-laws T line (whole 0) (whole 0) (whole 0) crosses spans)
+    ∙ alike _ _ refl
 
 sameT : {a b : Triangle (Vec3 ℚ)} → a .p0 ≡ b .p0 → a .p1 ≡ b .p1 → a .p2 ≡ b .p2 → a ≡ b
 sameT p q r = λ i. triangle (p i) (q i) (r i)

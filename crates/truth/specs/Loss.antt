@@ -1,12 +1,12 @@
 -- What `interpolate_bwd` adds for a pixel is the derivative of the pixel's part of the loss.
 use Prim.Native.Nat.{ℕ, zero, suc}
-use mathlib.Core.Path.{_≡_, refl, sym, _∙_, ap}
-use mathlib.Core.List.{List, [], _∷_}
+use mathlib.Core.Path.{_≡_, refl, _∙_, ap}
+use mathlib.Core.List.{[], _∷_}
 use Rattle.geometry.specs.Arith.{Arith}
-use Rattle.geometry.specs.Vector.{Vec3, Weights, weights, Triangle, triangle}
+use Rattle.geometry.specs.Vector.{Vec3, Weights, weights, Triangle}
 use Rattle.geometry.specs.Formula.{blend}
-use Rattle.rays.specs.Space.{Ray, minus3, dot3, cross3}
-use Rattle.rays.specs.Plane.{normal, planeWeights}
+use Rattle.rays.specs.Space.{Ray, minus3, dot3, cross3, along3}
+use Rattle.rays.specs.Plane.{normal, distance, hit, weight, weightsAt, weightsOn, planeWeights}
 use Rattle.rays.specs.Backward.{frameOf, framed, meetsU, meetsV, weighted, shared, backwardOn, planeBackward}
 use Rattle.values_bwd.specs.Gather.{gathered}
 use Rattle.truth.specs.Laws.{Laws, Invertible}
@@ -15,7 +15,7 @@ use Rattle.truth.specs.Dual.{Dual, dual, duals, still, dual-laws, dual-i
 use Rattle.truth.specs.Moving.{moving, movingValues, stillRay, inner}
 use Rattle.truth.specs.Meeting.{D, n·n, t, u, v, weights-agree}
 use Rattle.truth.specs.Shares.{shares-true}
-use Rattle.truth.specs.Pixel.{valueAt, loss, incoming, backward, gradientsAt, toValue, innerValues}
+use Rattle.truth.specs.Pixel.{valueAt, loss, incoming, ofU, ofV, backward, gradientsAt, toValue, innerValues}
 
 abbrev real : {A : Type 0} → Weights (Dual A) → Weights A
 real b = weights (b .b0 .re) (b .b1 .re) (b .b2 .re)
@@ -40,10 +40,13 @@ before = blend E (atε w) (var 13) (var 14) (var 15) :+ (var 16 :+ var 17 :+ var
 abbrev more : Expr
 more = F .mul (blend F w (dual (var 6) (var 9)) (dual (var 7) (var 10)) (dual (var 8) (var 11))) (still E (var 12)) .eps
 
+abbrev to : Expr → Expr
+to b = toValue E (λ j. var 12) b 0
+
 abbrev after : Expr
 after =
     blend E (atε w) (var 13 :+ var 6 :* var 12) (var 14 :+ var 7 :* var 12) (var 15 :+ var 8 :* var 12)
-    :+ (var 16 :+ var 12 :* var 0 :* var 9 :+ (var 17 :+ var 12 :* var 2 :* var 10) :+ (var 18 :+ var 12 :* var 4 :* var 11))
+    :+ (var 16 :+ to (var 0) :* var 9 :+ (var 17 :+ to (var 2) :* var 10) :+ (var 18 :+ to (var 4) :* var 11))
 
 module _ {A : Type 0} (R : Arith A) (L : Laws R) (x y : Triangle (ℕ → A)) (d : ℕ → A) where
   open Arith R using (add as _⊕_)
@@ -67,11 +70,9 @@ module _ {A : Type 0} (R : Arith A) (L : Laws R) (x y : Triangle (ℕ → A)) (d
       (before :+ more) after refl
 
 module _ {A : Type 0} (R : Arith A) (L : Laws R) (p m : Triangle (Vec3 A)) (r : Ray A) (h : Invertible R (D R p r)) (k : Invertible R (n·n R p)) where
-  open Arith R using (add as _⊕_, sub as _⊖_, mul as _⊗_)
+  open Arith R using (add as _⊕_)
 
   infixl 6 _⊕_
-  infixl 6 _⊖_
-  infixl 7 _⊗_
   abbrev P : Triangle (Vec3 (Dual A))
   P = moving p m
 
@@ -93,8 +94,9 @@ module _ {A : Type 0} (R : Arith A) (L : Laws R) (p m : Triangle (Vec3 A)) (r : 
   unfolding Equal eval blend weighted backward
   by-uv g =
       by-ring R L (from R (t (duals R) P line .eps ∷ u (duals R) P line .eps ∷ v (duals R) P line .eps ∷ g .b0 ∷ g .b1 ∷ g .b2 ∷ []))
-      (blend E (weights (:0 :- var 1 :- var 2) (var 1) (var 2)) (var 3) (var 4) (var 5)) (:0 :* var 0 :+ (var 4 :- var 3) :* var 1 :+ (var 5 :- var 3) :* var 2) refl
-      ∙ shares-true R L p m r h (R .zero) (g .b1 ⊖ g .b0) (g .b2 ⊖ g .b0)
+      (blend E (weights (:0 :- var 1 :- var 2) (var 1) (var 2)) (var 3) (var 4) (var 5))
+      (:0 :* var 0 :+ ofU E (weights (var 3) (var 4) (var 5)) :* var 1 :+ ofV E (weights (var 3) (var 4) (var 5)) :* var 2) refl
+      ∙ shares-true R L p m r h (R .zero) (ofU R g) (ofV R g)
 
   -- Where D and n·n can be divided by: for one pixel, any number of channels c, vertices and values both moving, the derivative of the loss is
   -- what the gradients that the pass adds say of the movement.
@@ -106,3 +108,9 @@ module _ {A : Type 0} (R : Arith A) (L : Laws R) (p m : Triangle (Vec3 A)) (r : 
       ap (λ (b : Weights (Dual A)). gathered (duals R) (λ j. blend (duals R) b (movingValues x y .p0 j) (movingValues x y .p1 j) (movingValues x y .p2 j)) (λ j. still R (d j)) c .eps) forward
       ∙ summed R L x y d B c
       ∙ ap (λ s. s ⊕ innerValues R d (real B) y c) (by-uv (incoming R x d c))
+
+  -- beside ε stands the loss itself
+  pub loss-same : (x y : Triangle (ℕ → A)) (d : ℕ → A) (c : ℕ) → loss (duals R) P line (movingValues x y) (λ j. still R (d j)) c .re ≡ loss R p r x d c
+  unfolding loss gathered valueAt blend planeWeights weightsOn weightsAt weight hit distance along3 normal minus3 dot3 cross3
+  loss-same x y d zero = refl
+  loss-same x y d (suc c) = ap (λ s. s ⊕ R .mul (valueAt R p r x c) (d c)) (loss-same x y d c)

@@ -1,16 +1,16 @@
 -- The ray and the plane: the forward weights and the backward ones are the same, and make the point where the ray meets the plane.
 use Prim.Native.Nat.{ℕ}
 use mathlib.Core.Path.{_≡_, refl, sym, _∙_, ap}
-use mathlib.Core.List.{List, [], _∷_}
+use mathlib.Core.List.{[], _∷_}
 use Rattle.geometry.specs.Arith.{Arith}
-use Rattle.geometry.specs.Vector.{Vec3, vec3, Weights, weights, Triangle, triangle}
+use Rattle.geometry.specs.Vector.{Vec3, vec3, weights, Triangle, triangle}
 use Rattle.geometry.specs.Formula.{blend, pointFrom}
 use Rattle.rays.specs.Space.{Ray, ray, minus3, dot3, cross3, along3}
 use Rattle.rays.specs.Plane.{normal, distance, hit, weight, weightsAt, weightsOn, planeWeights}
-use Rattle.rays.specs.Backward.{Frame, framed, frameOf, meetsT, meetsU, meetsV, weighted, shared, backwardOn, planeBackward}
+use Rattle.rays.specs.Backward.{framed, frameOf, meetsT, meetsU, meetsV, weighted, shared, backwardOn, planeBackward}
 use Rattle.truth.specs.Laws.{Laws, Invertible}
 use Rattle.truth.specs.Ring.{cancelled}
-use Rattle.truth.specs.Solve.{Expr, var, :0, :1, _:+_, _:-_, _:*_, _∷₃_, var3, exprs, fixed, from, eval, Equal, by-ring, by-premise}
+use Rattle.truth.specs.Solve.{Expr, var, :1, _:-_, _:*_, _∷₃_, var3, exprs, fixed, from, eval, Equal, by-ring, by-premise}
 
 -- ---- the backward formula's D, t, u and v, and the forward one's n·n
 
@@ -42,9 +42,8 @@ abbrev line : Ray Expr
 line = ray (var3 9) (var3 12)
 
 module _ {A : Type 0} (R : Arith A) (L : Laws R) (p : Triangle (Vec3 A)) (r : Ray A) (h : Invertible R (D R p r)) where
-  open Arith R using (mul as _⊗_, div as _⊘_, one)
+  open Arith R using (div as _⊘_, one)
 
-  infixl 7 _⊗_
   infixl 7 _⊘_
   -- with 1 / D times for every division
   abbrev S : Arith A

@@ -3,8 +3,7 @@ use Prim.Native.Nat.{ℕ, zero, suc, _+_, _*_, _≤_, _<_}
 use mathlib.Core.Path.{_≡_, refl, sym, _∙_, ap, ap₂}
 use mathlib.Core.Option.{Option, none, some}
 use mathlib.Core.List.{List, [], _∷_, _++_, flatMap}
-use native.Mathlib.Nat.{not-suc-le-zero, le-of-suc-le-suc, add-zero, zero-add, mul-comm, mul-le-mul-right}
-use native.Mathlib.Numerals.{add-one}
+use native.Mathlib.Nat.{not-suc-le-zero, le-of-suc-le-suc, add-zero, zero-add}
 use native.Mathlib.Omega.{arith}
 use lib.ListN.{length, getD, set, length-set}
 use Rattle.geometry.specs.Arith.{Arith}
@@ -13,17 +12,16 @@ use Rattle.rays.specs.Space.{Ray, dot3}
 use Rattle.meshes.specs.Mesh.{Face}
 use Rattle.layers.specs.Layer.{tabulate}
 use Rattle.values.specs.Pass.{span}
-use Rattle.values.specs.Laws.Ranges.{tabulate-add}
 use Rattle.values_bwd.specs.Gather.{gathered}
 use Rattle.truth.specs.Laws.{Laws, Invertible}
-use Rattle.truth.specs.Ring.{zero-add as zero-plus, add-add, zero-mul}
-use Rattle.truth.specs.Solve.{same3, Expr, var, :0, _:+_, _:*_, _∷₃_, var3, exprs, from, eval, Equal, by-ring}
+use Rattle.truth.specs.Ring.{zero-add as zero-plus, add-add}
+use Rattle.truth.specs.Solve.{same3, var, :0, _:+_, _:*_, _∷₃_, var3, exprs, from, eval, Equal, by-ring}
 use Rattle.truth.specs.Dual.{Dual, dual, duals, still}
-use Rattle.truth.specs.Moving.{moving, movingValues, stillRay, inner}
+use Rattle.truth.specs.Moving.{stillRay, inner}
 use Rattle.truth.specs.Meeting.{D, n·n}
-use Rattle.truth.specs.Pixel.{loss, gradientsAt, toValue, innerValues}
+use Rattle.truth.specs.Pixel.{toValue, innerValues}
 use Rattle.truth.specs.Loss.{loss-true}
-use Rattle.truth.specs.Image.{Scene, Addition, addition, vertexAt, cornersAt, valuesAt, toCorners, toXyz, toVal, incomingAt, pixelLoss, pixelXyz, pixelVal, lossAt, xyzAt, valAt, imageLoss, imageXyz, imageVal, sumFrom, added, summed}
+use Rattle.truth.specs.Image.{Scene, Addition, vertexAt, cornersAt, valuesAt, toCorners, toXyz, toVal, incomingAt, pixelLoss, pixelXyz, pixelVal, xyzAt, valAt, imageLoss, imageXyz, imageVal, sumFrom, added, summed}
 
 -- ---- what a buffer says of a movement
 

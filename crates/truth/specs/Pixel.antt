@@ -26,8 +26,15 @@ module _ {A : Type 0} (R : Arith A) where
   unfoldable pub incoming : Triangle (ℕ → A) → (ℕ → A) → ℕ → Weights A
   incoming x d c = weights (gathered R (x .p0) d c) (gathered R (x .p1) d c) (gathered R (x .p2) d c)
 
+  -- .. of u and of v, what corner 1 and corner 2 have beyond corner 0 ..
+  abbrev pub ofU : Weights A → A
+  ofU b = b .b1 ⊖ b .b0
+
+  abbrev pub ofV : Weights A → A
+  ofV b = b .b2 ⊖ b .b0
+
   unfoldable pub backward : Triangle (Vec3 A) → Ray A → Weights A → Gradients A
-  backward p r b = planeBackward R p r zero (b .b1 ⊖ b .b0) (b .b2 ⊖ b .b0)
+  backward p r b = planeBackward R p r zero (ofU b) (ofV b)
 
   -- .. to the corners (`.to`), with the weights (`.bc`) ..
   unfoldable pub gradientsAt : Triangle (Vec3 A) → Ray A → Triangle (ℕ → A) → (ℕ → A) → ℕ → Gradients A

@@ -2,7 +2,7 @@
 -- three corners of a face is the derivative of the projected point of fixed weights.
 use Prim.Native.Nat.{ℕ}
 use mathlib.Core.Path.{_≡_, refl, sym, _∙_, ap}
-use mathlib.Core.List.{List, [], _∷_}
+use mathlib.Core.List.{[], _∷_}
 use Rattle.geometry.specs.Arith.{Arith}
 use Rattle.geometry.specs.Vector.{Vec3, Weights, weights, Triangle, Projected, projected}
 use Rattle.geometry.specs.Formula.{blend, pointFrom, row, over}

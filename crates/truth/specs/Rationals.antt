@@ -2,13 +2,13 @@
 -- divided by: so the theorems of this crate speak of an exact arithmetic with division.
 use Prim.Native.Nat.{ℕ}
 use mathlib.Core.Path.{_≡_, refl, sym, _∙_, ap, subst}
-use mathlib.Core.List.{List, [], _∷_}
+use mathlib.Core.List.{[], _∷_}
 use mathlib.Core.Logic.{_⊎_, inl, inr}
 use mathlib.Core.Quot.{Quot, Quot·mk, Quot·sound, Quot-set, Quot·lift, ind}
-use lib.IntN.{ℤ, pos, negsuc, negℤ, _+ℤ_, _*ℤ_, zero-*ℤ, *ℤ-comm}
+use lib.IntN.{ℤ, pos, _*ℤ_, zero-*ℤ, *ℤ-comm}
 use Rattle.geometry.specs.Arith.{Arith}
 use Rattle.truth.specs.Laws.{Laws, Invertible}
-use Rattle.truth.specs.Solve.{Expr, var, :0, :1, _:+_, _:-_, _:*_, :-_, exprs, from, eval, Equal, by-ring, by-premise}
+use Rattle.truth.specs.Solve.{Expr, var, :0, :1, _:-_, _:*_, :-_, exprs, from, eval, Equal, by-ring, by-premise}
 use Rattle.truth.specs.Integers.{integers, integer-laws, NonZero, zero-or-not, nonzero-mul}
 
 -- ---- fractions, over any arithmetic

@@ -1,14 +1,13 @@
 -- The backward formula of a plane is the derivative of where the ray meets it.
-use Prim.Native.Nat.{ℕ}
 use mathlib.Core.Path.{_≡_, refl, sym, _∙_, ap}
-use mathlib.Core.List.{List, [], _∷_}
+use mathlib.Core.List.{[], _∷_}
 use Rattle.geometry.specs.Arith.{Arith}
-use Rattle.geometry.specs.Vector.{Vec3, vec3, Weights, weights, Triangle, triangle}
+use Rattle.geometry.specs.Vector.{Vec3, Weights, weights, Triangle, triangle}
 use Rattle.geometry.specs.Formula.{blend, pointFrom}
 use Rattle.rays.specs.Space.{Ray, minus3, dot3, cross3, scaled3, along3}
 use Rattle.rays.specs.Backward.{Frame, framed, frameOf, meetsT, meetsU, meetsV, weighted, gradientOn, gradient, shares, shared, backwardOn, planeBackward}
 use Rattle.truth.specs.Laws.{Laws, Invertible}
-use Rattle.truth.specs.Solve.{same3, Expr, var, :0, :1, _:+_, _:-_, _:*_, :-_, _∷₃_, var3, exprs, fixed, from, eval, Equal, by-ring, by-premise}
+use Rattle.truth.specs.Solve.{same3, var, :0, :1, _:+_, _:-_, _:*_, :-_, _∷₃_, var3, exprs, fixed, from, eval, Equal, by-ring, by-premise}
 use Rattle.truth.specs.Dual.{Dual, dual, duals, still, dual-laws, dual-invertible}
 use Rattle.truth.specs.Moving.{moving, stillRay, inner}
 use Rattle.truth.specs.Meeting.{D, t, u, v, meets}
@@ -32,7 +31,7 @@ module _ {A : Type 0} (R : Arith A) (L : Laws R) where
   gradient-is f dt du dv = same3 (L .div-is _ _) (L .div-is _ _) (L .div-is _ _)
 
 -- t d − u e1 − v e2
-within : {A : Type 0} → Arith A → A → A → A → Vec3 A → Vec3 A → Vec3 A → Vec3 A
+unfoldable pub within : {A : Type 0} → Arith A → A → A → A → Vec3 A → Vec3 A → Vec3 A → Vec3 A
 within R t u v d e1 e2 = minus3 R (minus3 R (scaled3 R t d) (scaled3 R u e1)) (scaled3 R v e2)
 
 module _ {A : Type 0} (R : Arith A) (L : Laws R) where
@@ -42,7 +41,7 @@ module _ {A : Type 0} (R : Arith A) (L : Laws R) where
   infixl 7 _⊗_
   infixl 7 _⊘_
   -- Cramer's rule: g tells t, u and v apart
-  told-apart : (t u v dt du dv : A) (d e1 e2 : Vec3 A) → Invertible R (framed R d e1 e2 .det)
+  pub told-apart : (t u v dt du dv : A) (d e1 e2 : Vec3 A) → Invertible R (framed R d e1 e2 .det)
       → dot3 R (gradient R (framed R d e1 e2) dt du dv) (within R t u v d e1 e2) ≡ dt ⊗ t ⊕ du ⊗ u ⊕ dv ⊗ v
   unfolding Equal eval within framed gradient gradientOn minus3 scaled3 dot3 cross3
   told-apart t u v dt du dv d e1 e2 h =

@@ -173,10 +173,9 @@ cancels xs ys s r = go (comparing xs ys) refl (differ s r) refl
     go Ordering·eq c true e = (compared xs ys c, e)
 
 module _ {A : Type 0} (R : Arith A) (L : Laws R) (ρ : ℕ → A) where
-  open Arith R using (add as _⊕_, sub as _⊖_, mul as _⊗_, neg, zero, one)
+  open Arith R using (add as _⊕_, mul as _⊗_, neg, zero, one)
 
   infixl 6 _⊕_
-  infixl 6 _⊖_
   infixl 7 _⊗_
   prod : List ℕ → A
   prod [] = one
