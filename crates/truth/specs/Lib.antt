@@ -37,6 +37,7 @@ pub mod Ties
 pub mod Integers
 pub mod Rationals
 pub mod Examples
--- the proofs' tool
+-- the proofs' tools
+pub mod Buffers
 pub mod Ring
 pub mod Solve

@@ -13,7 +13,7 @@ use Rattle.truth.specs.Laws.{Laws, Invertible}
 use Rattle.truth.specs.Solve.{Expr, var, :0, _:+_, _:-_, _:*_, exprs, from, eval, Equal, by-ring}
 use Rattle.truth.specs.Dual.{Dual, dual, duals, still, dual-laws, dual-invertible}
 use Rattle.truth.specs.Moving.{moving, movingValues, stillRay, inner}
-use Rattle.truth.specs.Meeting.{D, n·n, t, u, v, weights-agree}
+use Rattle.truth.specs.Meeting.{D, n·n, tOf, uOf, vOf, weights-agree}
 use Rattle.truth.specs.Shares.{shares-true}
 use Rattle.truth.specs.Pixel.{valueAt, loss, incoming, ofU, ofV, backward, gradientsAt, toValue, innerValues}
 
@@ -81,7 +81,7 @@ module _ {A : Type 0} (R : Arith A) (L : Laws R) (p m : Triangle (Vec3 A)) (r : 
 
   -- the moving pixel's weights
   abbrev B : Weights (Dual A)
-  B = weighted (duals R) (u (duals R) P line) (v (duals R) P line)
+  B = weighted (duals R) (uOf (duals R) P line) (vOf (duals R) P line)
 
   forward : planeWeights (duals R) P line ≡ B
   unfolding planeBackward backwardOn shared frameOf framed normal minus3 dot3 cross3
@@ -93,7 +93,7 @@ module _ {A : Type 0} (R : Arith A) (L : Laws R) (p m : Triangle (Vec3 A)) (r : 
   by-uv : (g : Weights A) → blend R (atε B) (g .b0) (g .b1) (g .b2) ≡ inner R (backward R p r g .to) m
   unfolding Equal eval blend weighted backward
   by-uv g =
-      by-ring R L (from R (t (duals R) P line .eps ∷ u (duals R) P line .eps ∷ v (duals R) P line .eps ∷ g .b0 ∷ g .b1 ∷ g .b2 ∷ []))
+      by-ring R L (from R (tOf (duals R) P line .eps ∷ uOf (duals R) P line .eps ∷ vOf (duals R) P line .eps ∷ g .b0 ∷ g .b1 ∷ g .b2 ∷ []))
       (blend E (weights (:0 :- var 1 :- var 2) (var 1) (var 2)) (var 3) (var 4) (var 5))
       (:0 :* var 0 :+ ofU E (weights (var 3) (var 4) (var 5)) :* var 1 :+ ofV E (weights (var 3) (var 4) (var 5)) :* var 2) refl
       ∙ shares-true R L p m r h (R .zero) (ofU R g) (ofV R g)

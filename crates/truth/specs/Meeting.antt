@@ -21,14 +21,14 @@ module _ {A : Type 0} (R : Arith A) (p : Triangle (Vec3 A)) (r : Ray A) where
   abbrev pub D : A
   D = frameOf R p r .det
 
-  abbrev pub t : A
-  t = meetsT R (frameOf R p r) (minus3 R (p .p0) (r .org))
+  abbrev pub tOf : A
+  tOf = meetsT R (frameOf R p r) (minus3 R (p .p0) (r .org))
 
-  abbrev pub u : A
-  u = meetsU R (frameOf R p r) (minus3 R (p .p0) (r .org))
+  abbrev pub uOf : A
+  uOf = meetsU R (frameOf R p r) (minus3 R (p .p0) (r .org))
 
-  abbrev pub v : A
-  v = meetsV R (frameOf R p r) (minus3 R (p .p0) (r .org))
+  abbrev pub vOf : A
+  vOf = meetsV R (frameOf R p r) (minus3 R (p .p0) (r .org))
 
 -- ---- the formulas as trees: the corners are variables 0 to 8, o and d 9 to 14, and 15 is 1 / D
 
@@ -49,24 +49,24 @@ module _ {A : Type 0} (R : Arith A) (L : Laws R) (p : Triangle (Vec3 A)) (r : Ra
   abbrev S : Arith A
   S = fixed R (one ⊘ D R p r)
 
-  t-is : t R p r ≡ t S p r
+  t-is : tOf R p r ≡ tOf S p r
   unfolding meetsT frameOf framed minus3 dot3 cross3
   t-is = L .div-is _ _
 
-  u-is : u R p r ≡ u S p r
+  u-is : uOf R p r ≡ uOf S p r
   unfolding meetsU frameOf framed minus3 dot3 cross3
   u-is = L .div-is _ _
 
-  v-is : v R p r ≡ v S p r
+  v-is : vOf R p r ≡ vOf S p r
   unfolding meetsV frameOf framed minus3 dot3 cross3
   v-is = L .div-is _ _
 
-  meets-fixed : along3 R r (t S p r) ≡ pointFrom R (weighted R (u S p r) (v S p r)) (p .p0) (p .p1) (p .p2)
+  meets-fixed : along3 R r (tOf S p r) ≡ pointFrom R (weighted R (uOf S p r) (vOf S p r)) (p .p0) (p .p1) (p .p2)
   unfolding Equal eval meetsT meetsU meetsV weighted frameOf framed minus3 dot3 cross3 along3 pointFrom blend
   meets-fixed =
       let ρ = from R (p .p0 ∷₃ p .p1 ∷₃ p .p2 ∷₃ r .org ∷₃ r .dir ∷₃ (one ⊘ D R p r) ∷ []) in
-      let a = along3 E line (t E corners line) in
-      let b = pointFrom E (weighted E (u E corners line) (v E corners line)) (var3 0) (var3 3) (var3 6) in
+      let a = along3 E line (tOf E corners line) in
+      let b = pointFrom E (weighted E (uOf E corners line) (vOf E corners line)) (var3 0) (var3 3) (var3 6) in
       let k = D E corners line :* var 15 in
       λ j.
       vec3 (by-premise R L ρ (a .x) (b .x) (var 0 :- var 9) k :1 h refl j)
@@ -74,7 +74,7 @@ module _ {A : Type 0} (R : Arith A) (L : Laws R) (p : Triangle (Vec3 A)) (r : Ra
       (by-premise R L ρ (a .z) (b .z) (var 2 :- var 11) k :1 h refl j)
 
   -- Where D can be divided by, the ray's point o + t d is the point that the backward formula's weights make of the corners, p0 + u e1 + v e2.
-  pub meets : along3 R r (t R p r) ≡ pointFrom R (weighted R (u R p r) (v R p r)) (p .p0) (p .p1) (p .p2)
+  pub meets : along3 R r (tOf R p r) ≡ pointFrom R (weighted R (uOf R p r) (vOf R p r)) (p .p0) (p .p1) (p .p2)
   meets =
       ap (along3 R r) t-is
       ∙ meets-fixed
@@ -124,4 +124,4 @@ pub weights-agree : {A : Type 0} (R : Arith A) → Laws R → (p : Triangle (Vec
     → Invertible R (n·n R p)
     → planeWeights R p r ≡ planeBackward R p r dt du dv .bc
 unfolding planeWeights weightsOn hit distance normal meetsT frameOf framed planeBackward backwardOn shared
-weights-agree R L p r dt du dv h k = ap (weightsAt R p (normal R p)) (meets R L p r h) ∙ weights-made R L p (u R p r) (v R p r) k
+weights-agree R L p r dt du dv h k = ap (weightsAt R p (normal R p)) (meets R L p r h) ∙ weights-made R L p (uOf R p r) (vOf R p r) k

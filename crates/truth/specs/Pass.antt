@@ -2,136 +2,27 @@
 use Prim.Native.Nat.{ℕ, zero, suc, _+_, _*_, _≤_, _<_}
 use mathlib.Core.Path.{_≡_, refl, sym, _∙_, ap, ap₂}
 use mathlib.Core.Option.{Option, none, some}
-use mathlib.Core.List.{List, [], _∷_, _++_, flatMap}
-use native.Mathlib.Nat.{not-suc-le-zero, le-of-suc-le-suc, add-zero, zero-add}
+use mathlib.Core.List.{List, [], _∷_}
+use native.Mathlib.Nat.{zero-add}
 use native.Mathlib.Omega.{arith}
-use lib.ListN.{length, getD, set, length-set}
+use lib.ListN.{length}
 use Rattle.geometry.specs.Arith.{Arith}
 use Rattle.geometry.specs.Vector.{Vec3, vec3, Weights, Triangle, triangle}
 use Rattle.rays.specs.Space.{Ray, dot3}
 use Rattle.meshes.specs.Mesh.{Face}
-use Rattle.layers.specs.Layer.{tabulate}
-use Rattle.values.specs.Pass.{span}
 use Rattle.values_bwd.specs.Gather.{gathered}
 use Rattle.truth.specs.Laws.{Laws, Invertible}
-use Rattle.truth.specs.Ring.{zero-add as zero-plus, add-add}
+use Rattle.truth.specs.Ring.{add-add}
 use Rattle.truth.specs.Solve.{same3, var, :0, _:+_, _:*_, _∷₃_, var3, exprs, from, eval, Equal, by-ring}
 use Rattle.truth.specs.Dual.{Dual, dual, duals, still}
 use Rattle.truth.specs.Moving.{stillRay, inner}
 use Rattle.truth.specs.Meeting.{D, n·n}
 use Rattle.truth.specs.Pixel.{toValue, innerValues}
 use Rattle.truth.specs.Loss.{loss-true}
-use Rattle.truth.specs.Image.{Scene, Addition, vertexAt, cornersAt, valuesAt, toCorners, toXyz, toVal, incomingAt, pixelLoss, pixelXyz, pixelVal, xyzAt, valAt, imageLoss, imageXyz, imageVal, sumFrom, added, summed}
+use Rattle.truth.specs.Buffers.{against, paired, Within, within-append, turns-within, against-summed, paired-turns, sum-last}
+use Rattle.truth.specs.Image.{Scene, Addition, vertexAt, cornersAt, valuesAt, toCorners, toXyz, toVal, incomingAt, pixelLoss, pixelXyz, pixelVal, xyzAt, valAt, imageLoss, imageXyz, imageVal, sumFrom, summed}
 
--- ---- what a buffer says of a movement
-
-module _ {A : Type 0} (R : Arith A) where
-  open Arith R using (add as _⊕_, mul as _⊗_)
-
-  infixl 6 _⊕_
-  infixl 7 _⊗_
-  -- ⟨xs, m⟩, m by place
-  unfoldable pub against : List A → (ℕ → A) → A
-  against [] m = R .zero
-  against (x ∷ xs) m = x ⊗ m 0 ⊕ against xs (λ k. m (suc k))
-
-  -- the same of additions
-  paired : (ℕ → A) → List (Addition A) → A
-  paired m [] = R .zero
-  paired m (a ∷ as') = a .amount ⊗ m (a .place) ⊕ paired m as'
-
--- every addition is to a place of the buffer
-Within : {A : Type 0} → ℕ → List (Addition A) → Type 0
-Within n [] = Unit {0}
-Within n (a ∷ as') = (a .place < n) × Within n as'
-
-within-append : {A : Type 0} (n : ℕ) (xs ys : List (Addition A)) → Within n xs → Within n ys → Within n (xs ++ ys)
-unfolding Within
-within-append n [] ys a b = b
-within-append n (x ∷ xs) ys a b = (a .0, within-append n xs ys (a .1) b)
-
-module _ {A : Type 0} (R : Arith A) (L : Laws R) where
-  open Arith R using (add as _⊕_, mul as _⊗_)
-
-  infixl 6 _⊕_
-  infixl 7 _⊗_
-  paired-append : (m : ℕ → A) (xs ys : List (Addition A)) → paired R m (xs ++ ys) ≡ paired R m xs ⊕ paired R m ys
-  unfolding paired
-  paired-append m [] ys = sym (zero-plus R L _)
-  paired-append m (x ∷ xs) ys = ap (λ t. x .amount ⊗ m (x .place) ⊕ t) (paired-append m xs ys) ∙ sym (L .add-assoc _ _ _)
-
-  module _ (past : A) where
-    against-set : (xs : List A) (i : ℕ) (a : A) (m : ℕ → A) → i < length xs → against R (set xs i (getD xs i past ⊕ a)) m ≡ against R xs m ⊕ a ⊗ m i
-    unfolding Equal eval against
-    against-set [] i a m h = absurd (not-suc-le-zero h)
-    against-set (x ∷ xs) zero a m h =
-        by-ring R L (from R (x ∷ a ∷ m 0 ∷ against R xs (λ k. m (suc k)) ∷ [])) ((var 0 :+ var 1) :* var 2 :+ var 3) (var 0 :* var 2 :+ var 3 :+ var 1 :* var 2) refl
-    against-set (x ∷ xs) (suc i) a m h =
-        ap (λ t. x ⊗ m 0 ⊕ t) (against-set xs i a (λ k. m (suc k)) (le-of-suc-le-suc h)) ∙ sym (L .add-assoc _ _ _)
-
-    against-summed : (xs : List A) (as' : List (Addition A)) (m : ℕ → A) → Within (length xs) as' → against R (summed R past xs as') m ≡ against R xs m ⊕ paired R m as'
-    unfolding summed added paired Within
-    against-summed xs [] m h = sym (L .add-zero _)
-    against-summed xs (a ∷ as') m h =
-        against-summed (added R past xs a) as' m (rw (length-set xs (a .place) (getD xs (a .place) past ⊕ a .amount)) (h .1))
-        ∙ ap (λ t. t ⊕ paired R m as') (against-set xs (a .place) (a .amount) m (h .0))
-        ∙ L .add-assoc _ _ _
-
-  -- additions in turn
-  paired-turns : (m : ℕ → A) (f : ℕ → List (Addition A)) (a n : ℕ) → paired R m (flatMap f (span a n)) ≡ sumFrom R (λ k. paired R m (f k)) a n
-  unfolding paired flatMap tabulate sumFrom
-  paired-turns m f a zero = refl
-  paired-turns m f a (suc n) = paired-append m (f a) (flatMap f (span (suc a) n)) ∙ ap (λ t. paired R m (f a) ⊕ t) (paired-turns m f (suc a) n)
-
-  sum-last : (term : ℕ → A) (a n : ℕ) → sumFrom R term a (suc n) ≡ sumFrom R term a n ⊕ term (a + n)
-  unfolding sumFrom
-  sum-last term a zero = L .add-comm _ _ ∙ ap (λ k. R .zero ⊕ term k) (sym (add-zero a))
-  sum-last term a (suc n) =
-      let e : suc a + n ≡ a + suc n = omega arith in
-      ap (λ t. term a ⊕ t) (sum-last term (suc a) n ∙ ap (λ k. sumFrom R term (suc a) n ⊕ term k) e) ∙ sym (L .add-assoc _ _ _)
-
-  -- ---- what one pixel adds
-
-  module _ (m : ℕ → A) (f : Face) where
-    placed : (v : ℕ) → vec3 (m (v * 3 + 0)) (m (v * 3 + 1)) (m (v * 3 + 2)) ≡ vertexAt m v
-    placed v = same3 (ap m (omega arith)) (ap m (omega arith)) (ap m (omega arith))
-
-    paired-xyz : (g : Triangle (Vec3 A)) → paired R m (toXyz f g) ≡ inner R g (cornersAt m f)
-    unfolding Equal eval paired toXyz inner dot3
-    paired-xyz g =
-        by-ring R L
-        (from R (g .p0 ∷₃ g .p1 ∷₃ g .p2
-        ∷₃ m (f .v0 * 3 + 0) ∷ m (f .v0 * 3 + 1) ∷ m (f .v0 * 3 + 2)
-        ∷ m (f .v1 * 3 + 0) ∷ m (f .v1 * 3 + 1) ∷ m (f .v1 * 3 + 2)
-        ∷ m (f .v2 * 3 + 0) ∷ m (f .v2 * 3 + 1) ∷ m (f .v2 * 3 + 2) ∷ []))
-        (var 0 :* var 9 :+ (var 3 :* var 12 :+ (var 6 :* var 15
-        :+ (var 1 :* var 10 :+ (var 4 :* var 13 :+ (var 7 :* var 16
-        :+ (var 2 :* var 11 :+ (var 5 :* var 14 :+ (var 8 :* var 17 :+ :0)))))))))
-        (inner (exprs :0) (triangle (var3 0) (var3 3) (var3 6)) (triangle (var3 9) (var3 12) (var3 15))) refl
-        ∙ ap (inner R g) (λ i. triangle (placed (f .v0) i) (placed (f .v1) i) (placed (f .v2) i))
-
-    module _ (c : ℕ) (d : ℕ → A) (b : Weights A) where
-      abbrev turn : ℕ → List (Addition A)
-      turn j = toCorners c f j (toValue R d (b .b0) j) (toValue R d (b .b1) j) (toValue R d (b .b2) j)
-
-      turns : (n : ℕ) → sumFrom R (λ j. paired R m (turn j)) 0 n ≡ innerValues R d b (valuesAt m c f) n
-      unfolding Equal eval sumFrom paired innerValues gathered
-      turns zero = by-ring R L (from R []) :0 (:0 :+ :0 :+ :0) refl
-      turns (suc n) =
-          sum-last (λ j. paired R m (turn j)) 0 n
-          ∙ ap₂ _⊕_ (turns n) (ap (λ j. paired R m (turn j)) (zero-add n))
-          ∙ by-ring R L
-          (from R (gathered R (toValue R d (b .b0)) (valuesAt m c f .p0) n ∷ gathered R (toValue R d (b .b1)) (valuesAt m c f .p1) n ∷ gathered R (toValue R d (b .b2)) (valuesAt m c f .p2) n
-          ∷ toValue R d (b .b0) n ∷ toValue R d (b .b1) n ∷ toValue R d (b .b2) n
-          ∷ m (f .v0 * c + n) ∷ m (f .v1 * c + n) ∷ m (f .v2 * c + n) ∷ []))
-          (var 0 :+ var 1 :+ var 2 :+ (var 3 :* var 6 :+ (var 4 :* var 7 :+ (var 5 :* var 8 :+ :0))))
-          (var 0 :+ var 3 :* var 6 :+ (var 1 :+ var 4 :* var 7) :+ (var 2 :+ var 5 :* var 8)) refl
-
-      paired-val : paired R m (toVal R c f d b) ≡ innerValues R d b (valuesAt m c f) c
-      unfolding toVal
-      paired-val = paired-turns m turn 0 c ∙ turns c
-
--- ---- a pixel and an image while the vertices and the values move
+-- ---- an image while the vertices and the values move
 
 abbrev pub stillRays : {A : Type 0} → Arith A → Option (Ray A) → Option (Ray (Dual A))
 stillRays R none = none
@@ -166,16 +57,56 @@ pub record Good {A : Type 0} (R : Arith A) (s : Scene A) (nx nv : ℕ) (f : Face
 abbrev pub Ready : {A : Type 0} → Arith A → Scene A → ℕ → ℕ → ℕ → Type 0
 Ready {A} R s nx nv p = (f : Face) (r : Ray A) → s .shown p ≡ some f → s .rays p ≡ some r → Good R s nx nv f r
 
-module _ {A : Type 0} where
-  corners-within : (n c : ℕ) (f : Face) (j : ℕ) (x0 x1 x2 : A) → f .v0 * c + c ≤ n → f .v1 * c + c ≤ n → f .v2 * c + c ≤ n → j < c → Within n (toCorners c f j x0 x1 x2)
-  unfolding Within
-  corners-within n c f j x0 x1 x2 a b e l = (omega arith, (omega arith, (omega arith, tt)))
+-- ---- what one pixel adds, against a movement
 
-  turns-within : (n : ℕ) (f : ℕ → List (Addition A)) (a k : ℕ) → ((j : ℕ) → a ≤ j → j < a + k → Within n (f j)) → Within n (flatMap f (span a k))
-  unfolding Within flatMap tabulate
-  turns-within n f a zero h = tt
-  turns-within n f a (suc k) h =
-      within-append n (f a) (flatMap f (span (suc a) k)) (h a (omega arith) (omega arith)) (turns-within n f (suc a) k (λ j l g. h j (omega arith) (omega arith)))
+module _ {A : Type 0} (R : Arith A) (L : Laws R) where
+  open Arith R using (add as _⊕_)
+
+  infixl 6 _⊕_
+  module _ (m : ℕ → A) (f : Face) where
+    placed : (v : ℕ) → vec3 (m (v * 3 + 0)) (m (v * 3 + 1)) (m (v * 3 + 2)) ≡ vertexAt m v
+    placed v = same3 (ap m (omega arith)) (ap m (omega arith)) (ap m (omega arith))
+
+    paired-xyz : (g : Triangle (Vec3 A)) → paired R m (toXyz f g) ≡ inner R g (cornersAt m f)
+    unfolding Equal eval paired toXyz inner dot3
+    paired-xyz g =
+        by-ring R L
+        (from R (g .p0 ∷₃ g .p1 ∷₃ g .p2
+        ∷₃ m (f .v0 * 3 + 0) ∷ m (f .v0 * 3 + 1) ∷ m (f .v0 * 3 + 2)
+        ∷ m (f .v1 * 3 + 0) ∷ m (f .v1 * 3 + 1) ∷ m (f .v1 * 3 + 2)
+        ∷ m (f .v2 * 3 + 0) ∷ m (f .v2 * 3 + 1) ∷ m (f .v2 * 3 + 2) ∷ []))
+        (var 0 :* var 9 :+ (var 3 :* var 12 :+ (var 6 :* var 15
+        :+ (var 1 :* var 10 :+ (var 4 :* var 13 :+ (var 7 :* var 16
+        :+ (var 2 :* var 11 :+ (var 5 :* var 14 :+ (var 8 :* var 17 :+ :0)))))))))
+        (inner (exprs :0) (triangle (var3 0) (var3 3) (var3 6)) (triangle (var3 9) (var3 12) (var3 15))) refl
+        ∙ ap (inner R g) (λ i. triangle (placed (f .v0) i) (placed (f .v1) i) (placed (f .v2) i))
+
+    module _ (c : ℕ) (d : ℕ → A) (b : Weights A) where
+      abbrev turn : ℕ → List (Addition A)
+      turn j = toCorners c f j (toValue R d (b .b0) j) (toValue R d (b .b1) j) (toValue R d (b .b2) j)
+
+      turns : (n : ℕ) → sumFrom R (λ j. paired R m (turn j)) 0 n ≡ innerValues R d b (valuesAt m c f) n
+      unfolding Equal eval sumFrom paired innerValues gathered
+      turns zero = by-ring R L (from R []) :0 (:0 :+ :0 :+ :0) refl
+      turns (suc n) =
+          sum-last R L (λ j. paired R m (turn j)) 0 n
+          ∙ ap₂ _⊕_ (turns n) (ap (λ j. paired R m (turn j)) (zero-add n))
+          ∙ by-ring R L
+          (from R (gathered R (toValue R d (b .b0)) (valuesAt m c f .p0) n ∷ gathered R (toValue R d (b .b1)) (valuesAt m c f .p1) n ∷ gathered R (toValue R d (b .b2)) (valuesAt m c f .p2) n
+          ∷ toValue R d (b .b0) n ∷ toValue R d (b .b1) n ∷ toValue R d (b .b2) n
+          ∷ m (f .v0 * c + n) ∷ m (f .v1 * c + n) ∷ m (f .v2 * c + n) ∷ []))
+          (var 0 :+ var 1 :+ var 2 :+ (var 3 :* var 6 :+ (var 4 :* var 7 :+ (var 5 :* var 8 :+ :0))))
+          (var 0 :+ var 3 :* var 6 :+ (var 1 :+ var 4 :* var 7) :+ (var 2 :+ var 5 :* var 8)) refl
+
+      paired-val : paired R m (toVal R c f d b) ≡ innerValues R d b (valuesAt m c f) c
+      unfolding toVal
+      paired-val = paired-turns R L m turn 0 c ∙ turns c
+
+-- ---- a pixel, and all
+
+corners-within : {A : Type 0} (n c : ℕ) (f : Face) (j : ℕ) (x0 x1 x2 : A) → f .v0 * c + c ≤ n → f .v1 * c + c ≤ n → f .v2 * c + c ≤ n → j < c → Within n (toCorners c f j x0 x1 x2)
+unfolding Within
+corners-within n c f j x0 x1 x2 a b e l = (omega arith, (omega arith, (omega arith, tt)))
 
 module _ {A : Type 0} (R : Arith A) (L : Laws R) (s : Scene A) (mx mv : ℕ → A) (nx nv : ℕ) where
   open Arith R using (add as _⊕_)

@@ -10,7 +10,7 @@ use Rattle.rays.specs.Backward.{framed, frameOf, weighted, gradient, shares, sh
 use Rattle.truth.specs.Laws.{Laws, Invertible}
 use Rattle.truth.specs.Solve.{same3, var, :0, :1, _:+_, _:-_, _:*_, exprs, from, eval, Equal, by-premise}
 use Rattle.truth.specs.Moving.{inner}
-use Rattle.truth.specs.Meeting.{D, t, u, v, meets}
+use Rattle.truth.specs.Meeting.{D, tOf, uOf, vOf, meets}
 use Rattle.truth.specs.Shares.{within, shared-out, told-apart}
 
 module _ {A : Type 0} (R : Arith A) (L : Laws R) where
@@ -38,8 +38,8 @@ module _ {A : Type 0} (R : Arith A) (L : Laws R) where
       (blend E (weighted E (var 9) (var 10)) (var 2) (var 3) (var 4) :- blend E (weighted E (var 12) (var 13)) (var 5) (var 6) (var 7)) (ap₂ _⊖_ h k) refl
 
   module _ (p q : Triangle (Vec3 A)) (r : Ray A) (h : Invertible R (D R p r)) (k : Invertible R (D R q r)) where
-    moves : pointFrom R (weighted R (u R p r) (v R p r)) (between p q .p0) (between p q .p1) (between p q .p2)
-        ≡ within R (t R q r ⊖ t R p r) (u R q r ⊖ u R p r) (v R q r ⊖ v R p r) (r .dir) (minus3 R (q .p1) (q .p0)) (minus3 R (q .p2) (q .p0))
+    moves : pointFrom R (weighted R (uOf R p r) (vOf R p r)) (between p q .p0) (between p q .p1) (between p q .p2)
+        ≡ within R (tOf R q r ⊖ tOf R p r) (uOf R q r ⊖ uOf R p r) (vOf R q r ⊖ vOf R p r) (r .dir) (minus3 R (q .p1) (q .p0)) (minus3 R (q .p2) (q .p0))
     unfolding within pointFrom along3 minus3 scaled3
     moves =
         same3 (follows _ _ _ _ _ _ _ _ _ _ _ _ _ _ (ap (λ (z : Vec3 A). z .x) (meets R L p r h)) (ap (λ (z : Vec3 A). z .x) (meets R L q r k)))
@@ -47,10 +47,10 @@ module _ {A : Type 0} (R : Arith A) (L : Laws R) where
         (follows _ _ _ _ _ _ _ _ _ _ _ _ _ _ (ap (λ (z : Vec3 A). z .z) (meets R L p r h)) (ap (λ (z : Vec3 A). z .z) (meets R L q r k)))
 
     pub secant : (dt du dv : A)
-        → dt ⊗ (t R q r ⊖ t R p r) ⊕ du ⊗ (u R q r ⊖ u R p r) ⊕ dv ⊗ (v R q r ⊖ v R p r)
+        → dt ⊗ (tOf R q r ⊖ tOf R p r) ⊕ du ⊗ (uOf R q r ⊖ uOf R p r) ⊕ dv ⊗ (vOf R q r ⊖ vOf R p r)
         ≡ inner R (shares R (planeBackward R p r dt du dv .bc) (gradient R (frameOf R q r) dt du dv)) (between p q)
     unfolding planeBackward backwardOn shared frameOf framed
     secant dt du dv =
-        sym (shared-out R L (weighted R (u R p r) (v R p r)) (gradient R (frameOf R q r) dt du dv) (between p q)
+        sym (shared-out R L (weighted R (uOf R p r) (vOf R p r)) (gradient R (frameOf R q r) dt du dv) (between p q)
         ∙ ap (dot3 R (gradient R (frameOf R q r) dt du dv)) moves
         ∙ told-apart R L _ _ _ dt du dv (r .dir) (minus3 R (q .p1) (q .p0)) (minus3 R (q .p2) (q .p0)) k)

@@ -10,7 +10,7 @@ use Rattle.truth.specs.Laws.{Laws, Invertible}
 use Rattle.truth.specs.Solve.{same3, var, :0, :1, _:+_, _:-_, _:*_, :-_, _∷₃_, var3, exprs, fixed, from, eval, Equal, by-ring, by-premise}
 use Rattle.truth.specs.Dual.{Dual, dual, duals, still, dual-laws, dual-invertible}
 use Rattle.truth.specs.Moving.{moving, stillRay, inner}
-use Rattle.truth.specs.Meeting.{D, t, u, v, meets}
+use Rattle.truth.specs.Meeting.{D, tOf, uOf, vOf, meets}
 
 module _ {A : Type 0} (R : Arith A) (L : Laws R) where
   open Arith R using (div as _⊘_, one)
@@ -75,19 +75,19 @@ module _ {A : Type 0} (R : Arith A) (L : Laws R) where
 
     -- t, u and v at ε
     abbrev t' : A
-    t' = t (duals R) P line .eps
+    t' = tOf (duals R) P line .eps
 
     abbrev u' : A
-    u' = u (duals R) P line .eps
+    u' = uOf (duals R) P line .eps
 
     abbrev v' : A
-    v' = v (duals R) P line .eps
+    v' = vOf (duals R) P line .eps
 
     dual-D : Invertible (duals R) (D (duals R) P line)
     unfolding frameOf framed minus3 dot3 cross3
     dual-D = dual-invertible R L (D (duals R) P line) h
 
-    moves : pointFrom R (weighted R (u R p r) (v R p r)) (m .p0) (m .p1) (m .p2) ≡ within R t' u' v' (r .dir) (minus3 R (p .p1) (p .p0)) (minus3 R (p .p2) (p .p0))
+    moves : pointFrom R (weighted R (uOf R p r) (vOf R p r)) (m .p0) (m .p1) (m .p2) ≡ within R t' u' v' (r .dir) (minus3 R (p .p1) (p .p0)) (minus3 R (p .p2) (p .p0))
     unfolding within pointFrom along3 minus3 scaled3 meetsT meetsU meetsV frameOf framed dot3 cross3
     moves =
         same3 (follows (r .org .x) (r .dir .x) (p .p0 .x) (p .p1 .x) (p .p2 .x) (m .p0 .x) (m .p1 .x) (m .p2 .x) tD uD vD (ap (λ (q : Vec3 (Dual A)). q .x .eps) same))
@@ -95,13 +95,13 @@ module _ {A : Type 0} (R : Arith A) (L : Laws R) where
         (follows (r .org .z) (r .dir .z) (p .p0 .z) (p .p1 .z) (p .p2 .z) (m .p0 .z) (m .p1 .z) (m .p2 .z) tD uD vD (ap (λ (q : Vec3 (Dual A)). q .z .eps) same))
       where
         tD : Dual A
-        tD = t (duals R) P line
+        tD = tOf (duals R) P line
 
         uD : Dual A
-        uD = u (duals R) P line
+        uD = uOf (duals R) P line
 
         vD : Dual A
-        vD = v (duals R) P line
+        vD = vOf (duals R) P line
 
         same : along3 (duals R) line tD ≡ pointFrom (duals R) (weighted (duals R) uD vD) (P .p0) (P .p1) (P .p2)
         same = meets (duals R) (dual-laws R L) P line dual-D
@@ -110,6 +110,6 @@ module _ {A : Type 0} (R : Arith A) (L : Laws R) where
     pub shares-true : (dt du dv : A) → dt ⊗ t' ⊕ du ⊗ u' ⊕ dv ⊗ v' ≡ inner R (planeBackward R p r dt du dv .to) m
     unfolding planeBackward backwardOn shared frameOf framed
     shares-true dt du dv =
-        sym (shared-out R L (weighted R (u R p r) (v R p r)) (gradient R (frameOf R p r) dt du dv) m
+        sym (shared-out R L (weighted R (uOf R p r) (vOf R p r)) (gradient R (frameOf R p r) dt du dv) m
         ∙ ap (dot3 R (gradient R (frameOf R p r) dt du dv)) moves
         ∙ told-apart t' u' v' dt du dv (r .dir) (minus3 R (p .p1) (p .p0)) (minus3 R (p .p2) (p .p0)) h)
