@@ -1,4 +1,4 @@
-//! Meshes to draw, random and hostile: both signs of m[11], orthographic, clipped, degenerate, repeated, with
+//! Meshes to draw, random and hostile: both signs of `m[11]`, orthographic, clipped, degenerate, repeated, with
 //! ties, with NaNs, infinities, subnormals and −0, on images from 1 × 1, and with arguments to refuse.
 use crate::random::Random;
 
