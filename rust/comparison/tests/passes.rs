@@ -5,11 +5,17 @@ use comparison::expected::{
     bwd_code_to_8, edge_gradient_and_type_code, interpolate_bwd_code, interpolate_code,
     interpolate_from_edges_code,
 };
-use comparison::pass::{pass, velocities, Pass, Velocities};
+use comparison::pass::{crowded_pass, pass, velocities, Pass, Velocities};
 use comparison::scene::{EMPTY, MOST};
 use paqelzim::Refusal;
 
 const PASSES: u64 = 30_000;
+const CROWDED: u64 = 2_000;
+
+/// The arguments of every test here: small images with all that can be wrong, and larger ones.
+fn passes() -> impl Iterator<Item = Pass> {
+    (0..PASSES).map(pass).chain((0..CROWDED).map(crowded_pass))
+}
 
 fn code(answer: Result<(), Refusal>) -> u32 {
     answer.map_or_else(|refusal| refusal.code(), |()| 0)
@@ -90,7 +96,7 @@ fn interpolate(pass: &Pass) -> (u32, Vec<f32>) {
 #[test]
 fn values() {
     let mut seen = Seen::default();
-    for pass in (0..PASSES).map(pass) {
+    for pass in passes() {
         let (code, pix2val) = interpolate(&pass);
         assert_eq!(code, interpolate_code(&pass), "{pass:?}");
         seen.add(code);
@@ -131,7 +137,7 @@ fn interpolate_bwd(pass: &Pass) -> (u32, [Vec<f32>; 2]) {
 #[test]
 fn values_backward() {
     let mut seen = Seen::default();
-    for pass in (0..PASSES).map(pass) {
+    for pass in passes() {
         let (code, [xyz, val]) = interpolate_bwd(&pass);
         assert_eq!(code, interpolate_bwd_code(&pass), "{pass:?}");
         seen.add(code);
@@ -177,7 +183,7 @@ fn edges(pass: &Pass) -> (u32, Pass) {
 #[test]
 fn edge_types() {
     let mut seen = Seen::default();
-    for pass in (0..PASSES).map(pass) {
+    for pass in passes() {
         let (code, left) = edges(&pass);
         assert_eq!(code, edge_gradient_and_type_code(&pass), "{pass:?}");
         seen.add(code);
@@ -221,7 +227,7 @@ fn bwd(pass: &Pass) -> (u32, Vec<f32>) {
 #[test]
 fn edges_backward_refused() {
     let mut seen = Seen::default();
-    for pass in (0..PASSES).map(pass) {
+    for pass in passes() {
         let (code, xyz) = bwd(&pass);
         let to_8 = bwd_code_to_8(&pass);
         assert_eq!(if code == 9 { 0 } else { code }, to_8, "{pass:?}");
@@ -239,7 +245,7 @@ fn edges_backward_refused() {
 #[test]
 fn edges_backward() {
     let (mut accepted, mut ninth) = (0, 0);
-    for pass in (0..PASSES).map(pass).filter(|p| bwd_code_to_8(p) == 0) {
+    for pass in passes().filter(|p| bwd_code_to_8(p) == 0) {
         let (code, xyz) = bwd(&pass);
         let Some(wanted) = comparison::reference::bwd(&pass) else {
             assert_eq!(code, 9, "{pass:?}");
@@ -261,7 +267,7 @@ fn edges_backward() {
 #[test]
 fn the_listed_file_differs_only_where_faces_cross() {
     let (mut crossed, mut uncrossed, mut unlike) = (0, 0, 0);
-    for pass in (0..PASSES).map(pass).filter(|p| bwd_code_to_8(p) == 0) {
+    for pass in passes().filter(|p| bwd_code_to_8(p) == 0) {
         let (code, ours) = bwd(&pass);
         if code != 0 {
             continue;
