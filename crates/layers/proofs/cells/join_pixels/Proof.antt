@@ -4,8 +4,8 @@ use borrow.Author.Needs.{needs}
 use Rattle.layers.specs.Cell.{pick}
 use Rattle.layers.specs.Layer.{layer, at}
 use Rattle.layers.specs.Laws.Pixels.{Turned, turned-none, turned-more, turned-all, spans-reaches}
-use Rattle.layers.proofs.pixels.join_pixels.Statement.{statement}
-use Rattle.layers.proofs.pixels.join_pixels.Tie as tie
+use Rattle.layers.proofs.cells.join_pixels.Statement.{statement}
+use Rattle.layers.proofs.cells.join_pixels.Tie as tie
 
 abbrev Inv-loop : tie.InvT-loop
 Inv-loop left-tri₀ left-depth₀ right-tri right-depth n p₀ left-tri left-depth p =

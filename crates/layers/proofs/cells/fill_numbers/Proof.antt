@@ -4,8 +4,8 @@ use lib.ListN.{length, set}
 use native.Mathlib.Omega.{arith}
 use borrow.Author.Needs.{needs}
 use Rattle.layers.specs.Laws.Pixels.{stored, stored-none, stored-more, stored-all}
-use Rattle.layers.proofs.pixels.fill_numbers.Statement.{statement}
-use Rattle.layers.proofs.pixels.fill_numbers.Tie as tie
+use Rattle.layers.proofs.cells.fill_numbers.Statement.{statement}
+use Rattle.layers.proofs.cells.fill_numbers.Tie as tie
 
 abbrev Inv-loop : tie.InvT-loop
 Inv-loop s₀ value i₀ s i = (i ≤ length s₀) × (length s ≡ length s₀) × (s ≡ stored (λ p. value) s₀ i)

@@ -4,8 +4,8 @@ use Prim.Native.Nat.{ℕ}
 use lib.Ieee.{Float, lt}
 use Rattle.layers.specs.Cell.{cell, pick, exceeds}
 use borrow.Author.Needs.{needs}
-use Rattle.layers.proofs.pixels.join_pixel.Statement.{statement}
-use Rattle.layers.proofs.pixels.join_pixel.Tie as tie
+use Rattle.layers.proofs.cells.join_pixel.Statement.{statement}
+use Rattle.layers.proofs.cells.join_pixel.Tie as tie
 
 picked : (a b : Float) (m n : ℕ) → pick (cell a m) (cell b n) ≡ cell (cond (lt a b) b a) (cond (lt a b) n m)
 unfolding pick exceeds
