@@ -1,6 +1,6 @@
 -- From what the steps of `edge_gradient_and_type` promise to the call's whole outcome.
 use Prim.Native.Nat.{ℕ}
-use mathlib.Core.Path.{_≡_, refl, sym, _∙_, ap₂}
+use mathlib.Core.Path.{_≡_, ap₂}
 use mathlib.Core.List.{List}
 use borrow.Author.Tests.{eq-eqb, ne-eqb}
 use Rattle.pixels.specs.Edge.{hedge, vedge}

@@ -1,11 +1,10 @@
 -- The whole outcome of `edge_gradient_and_type`.
 use Prim.Native.Nat.{ℕ, zero, suc, _*_, _/_}
-use mathlib.Core.Bool.{Bool, true, _&&_, cond}
+use mathlib.Core.Bool.{Bool, true, _&&_}
 use mathlib.Core.List.{List, [], _∷_}
-use lib.Dec.{eqb}
 use lib.ListN.{length}
 use lib.Ieee.{Float}
-use Rattle.questions.specs.Questions.{ask, firstNo, sizes, channels, groups, exact, allBelow, namesFaces}
+use Rattle.questions.specs.Questions.{ask, firstNo, unlessRefused, sizes, channels, groups, exact, allBelow, namesFaces}
 use Rattle.layers.specs.Layer.{tabulate}
 use Rattle.pixels.specs.Edge.{Axis, hedge, vedge, edgeCount, edgeAt}
 use Rattle.edges.specs.Types.{Sight, firstOf, secondOf, typeOf, answered}
@@ -68,7 +67,7 @@ outcome code hs vs = record { code = code; hedges = hs; vedges = vs }
 
 -- a refused call leaves them as they were
 unfoldable pub answer : ℕ → Outcome → Outcome → Outcome
-answer code before after = cond (eqb code 0) after before
+answer code before after = unlessRefused code before after
 
 unfoldable pub edgeTyping : List ℕ → List ℕ → ℕ → Sight → Signal → Sheet → Sheet → Outcome
 edgeTyping tri map h s v hs vs =

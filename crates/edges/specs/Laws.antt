@@ -1,18 +1,18 @@
 -- Laws of the edges' definitions: what a sound mesh and map have at a face and at an entry.
-use Prim.Native.Nat.{ℕ, zero, suc, _+_, _-_, _*_, _/_, _%_, _<_, _≤_}
+use Prim.Native.Nat.{ℕ, zero, suc, _+_, _-_, _*_, _/_, _<_}
 use mathlib.Core.Path.{_≡_, refl, sym, _∙_, ap}
 use mathlib.Core.Logic.{⊎-elim}
-use mathlib.Core.Bool.{Bool, true, false, _&&_, _||_, or-true, cond, false≢true}
+use mathlib.Core.Bool.{Bool, true, false, _&&_, or-true, cond}
 use mathlib.Core.Option.{Option, none, some}
 use mathlib.Core.List.{List, [], _∷_}
-use native.Mathlib.Nat.{not-suc-le-zero, le-of-suc-le-suc, div-add-mod, eq-or-lt-of-le}
+use native.Mathlib.Nat.{not-suc-le-zero, le-of-suc-le-suc, eq-or-lt-of-le}
 use native.Mathlib.Omega.{arith}
-use borrow.Author.Tests.{ltb-true, leb-true, eqb-true, eqb-false, ne-eqb}
-use lib.Dec.{leb, ltb, eqb}
+use borrow.Author.Tests.{eqb-false}
+use lib.Dec.{ltb, eqb}
 use lib.Ieee.{Float}
 use lib.ListN.{length, getD}
-use Rattle.questions.specs.Questions.{every, sizes, channels, groups, exact, allBelow, namesFace, namesFaces, empty, mostChannels}
-use Rattle.questions.specs.Laws.{both, sized, exactly, accepted}
+use Rattle.questions.specs.Questions.{every, sizes, channels, groups, exact, allBelow, namesFace, namesFaces, empty}
+use Rattle.questions.specs.Laws.{both, sized, channelled, grouped, whole, exactly, accepted, every-at, below-at, face-below}
 use Rattle.geometry.specs.Leaf.{project}
 use Rattle.meshes.specs.Mesh.{vertexAt, faceAt}
 use Rattle.meshes.specs.View.{entryAt, named, viewOf}
@@ -23,29 +23,14 @@ use Rattle.edges.specs.Inside.{together, projectFace, present, projects}
 use Rattle.edges.specs.Types.{Sight, sight, firstOf, secondOf, equalEntries, answered}
 use Rattle.edges.specs.Gradient.{Signal}
 use Rattle.edges.specs.Calls.{Sheet, exactSheet, exactAll, edgeCode, all, allAnswered}
-use Rattle.edges.specs.Steps.{SoundMesh, SoundMap, SoundSignal, Within, Ready, allProject}
-
-pub every-at : (test : ℕ → Bool) (xs : List ℕ) → every test xs ≡ true → (i : ℕ) → i < length xs → test (getD xs i 0) ≡ true
-unfolding every
-every-at test [] e i h = absurd (not-suc-le-zero h)
-every-at test (x ∷ xs) e zero h = both (test x) _ e .0
-every-at test (x ∷ xs) e (suc i) h = every-at test xs (both (test x) _ e .1) i (le-of-suc-le-suc h)
+use Rattle.edges.specs.Steps.{SoundMesh, SoundMap, Within, Ready, allProject}
 
 -- a vertex that a face names is there
 pub corner-there : {tri : List ℕ} {xyz : List Float} → SoundMesh tri xyz → (j : ℕ) → j < length tri → 3 * getD tri j 0 + 2 < length xyz
 corner-there {tri} {xyz} s j h =
     let e = s .vertices in
-    let l : getD tri j 0 < length xyz / 3 = ltb-true _ _ (every-at (λ x. ltb x (length xyz / 3)) tri (s .named) j h) in
+    let l = below-at (length xyz / 3) tri (s .named) j h in
     omega arith
-
--- an entry that is not empty names a face that is there
-pub entry-there : (n x : ℕ) → namesFace n x ≡ true → (x ≡ empty → ⊥) → x < n
-unfolding namesFace
-entry-there n x e h = ltb-true x n (go (ltb x n) (rw (ne-eqb x empty h) at e))
-  where
-    go : (b : Bool) → b || false ≡ true → b ≡ true
-    go true e = refl
-    go false e = absurd (false≢true e)
 
 -- each entry of the map names a face or none
 pub entry-named : {tri map : List ℕ} {xyz : List Float} {w h : ℕ} → SoundMap tri xyz map w h → (p : ℕ) → p < w * h → namesFace (length tri / 3) (getD map p 0) ≡ true
@@ -58,15 +43,6 @@ entry-shown {tri} {map} {xyz} {w} {h} {p} {n} s k = ap (entryAt map) (sym (k .0)
 -- the pair at place i of an axis's walk lies in the image
 pub within-at : {i x y : ℕ} (w h right down : ℕ) → Walked (w - right) i x y → i < (h - down) * (w - right) → Within w h right down x y
 within-at w h right down k l = record { column = omega (arith, in-row (h - down) k l); row = omega (arith, in-column (h - down) k l) }
-
--- whole groups of n numbers
-whole : (of n : ℕ) → groups of n ≡ true → of * (n / of) ≡ n
-unfolding groups
-whole of n e = let z : n % of ≡ 0 = eqb-true _ _ (both (eqb (n % of) 0) _ e .0) in omega (arith, div-add-mod n of)
-
-pub few : (n : ℕ) → channels n ≡ true → n < 17
-unfolding channels
-few n e = let l : n ≤ mostChannels = leb-true _ _ (both (leb 1 n) _ e .1) in omega arith
 
 -- the first seven questions, answered yes
 pub ready : (tri map : List ℕ) (xyz : List Float) (w h : ℕ) (v : Signal) (hs vs : Sheet)
@@ -83,14 +59,14 @@ ready tri map xyz w h v hs vs q1 q2 q3 q3' q4 q6 q7 =
     record {
       image =
           record {
-            mesh = record { faces = whole 3 (length tri) q3; vertices = whole 3 (length xyz) q3'; named = q6 };
+            mesh = record { faces = whole 3 (length tri) (grouped 3 _ q3); vertices = whole 3 (length xyz) (grouped 3 _ q3'); named = q6 };
             size = sized 1 w h q1;
             whole = exactly _ _ (a .0);
             named = q7;
           };
       signals =
           record {
-            few = few _ q2;
+            few = channelled _ q2;
             values = exactly _ _ (b .0);
             gradients = exactly _ _ (c .0);
           };
@@ -114,12 +90,13 @@ edge-accepted tri map h s v hs vs e =
 
 -- ---- where every vertex has a projection, question 8 is answered yes at every pair
 
-all-at : (t : ℕ → Bool) (n i : ℕ) → i < n → all t n ≡ true → t i ≡ true
+-- what the first n all pass, number i passes
+pub all-at : (t : ℕ → Bool) (n : ℕ) → all t n ≡ true → (i : ℕ) → i < n → t i ≡ true
 unfolding all
-all-at t zero i h e = absurd (not-suc-le-zero h)
-all-at t (suc n) i h e =
+all-at t zero e i h = absurd (not-suc-le-zero h)
+all-at t (suc n) e i h =
     let b = both (all t n) _ e in
-    ⊎-elim (λ s. ap t s ∙ b .1) (λ l. all-at t n i l (b .0)) (eq-or-lt-of-le (le-of-suc-le-suc h))
+    ⊎-elim (λ s. ap t s ∙ b .1) (λ l. all-at t n (b .0) i l) (eq-or-lt-of-le (le-of-suc-le-suc h))
 
 all-yes : (t : ℕ → Bool) (n : ℕ) → ((i : ℕ) → t i ≡ true) → all t n ≡ true
 unfolding all
@@ -147,8 +124,7 @@ module _ {tri map : List ℕ} (m : List Float) {xyz : List Float} {w h : ℕ} (s
   corner-projects : (j : ℕ) → j < length tri → present (project m (vertexAt xyz (getD tri j 0))) ≡ true
   unfolding allProject
   corner-projects j l =
-      all-at (λ v. present (project m (vertexAt xyz v))) (length xyz / 3) (getD tri j 0)
-      (ltb-true _ _ (every-at (λ x. ltb x (length xyz / 3)) tri (s .mesh .named) j l)) yes
+      all-at (λ v. present (project m (vertexAt xyz v))) (length xyz / 3) yes (getD tri j 0) (below-at (length xyz / 3) tri (s .mesh .named) j l)
 
   entry-projects : (x : ℕ) → namesFace (length tri / 3) x ≡ true → projects m xyz (named tri x) ≡ true
   unfolding projects named projectFace faceAt
@@ -157,7 +133,7 @@ module _ {tri map : List ℕ} (m : List Float) {xyz : List Float} {w h : ℕ} (s
       go : (b : Bool) → eqb x empty ≡ b → projects m xyz (cond b none (some (faceAt tri x))) ≡ true
       go true k = refl
       go false k =
-          let there = entry-there (length tri / 3) x e (eqb-false x empty k) in
+          let there = face-below (length tri / 3) x e (eqb-false x empty k) in
           let long = s .mesh .faces in
           together-present _ _ _ (corner-projects (3 * x) (omega arith)) (corner-projects (3 * x + 1) (omega arith)) (corner-projects (3 * x + 2) (omega arith))
 

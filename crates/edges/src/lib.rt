@@ -1,8 +1,8 @@
 // Edges: the public call `edge_gradient_and_type`.
 
 ghost use mathlib.Core.Path.{_≡_};
-ghost use Prim.Native.Nat.{_≤_, _<_};
-ghost use Rattle.questions.specs.Laws.{Sized};
+ghost use Prim.Native.Nat.{_≤_};
+ghost use Rattle.questions.specs.Laws.{Sized, Channels};
 ghost use Rattle.meshes.specs.View.{viewOf};
 ghost use Rattle.pixels.specs.Edge.{axis};
 ghost use Rattle.edges.specs.Types.{sight};
@@ -46,7 +46,7 @@ fn lengths_ok(
     vedge2dldr: &[f32],
 ) -> bool
     requires { ⌜ Sized 1 «img_w» «img_h» ⌝ }
-    requires { ⌜ «num_vdim» < 17 ⌝ }
+    requires { ⌜ Channels «num_vdim» ⌝ }
     ensures { λ r. ⌜ r ≡ exactAll «img_w» «img_h» (now («pix2tri» .entry)) (signal (now («pix2val» .entry)) (now («dldw_pix2val» .entry)) «num_vdim»)
         (sheet (now («hedge2type» .entry)) (now («hedge2dldr» .entry))) (sheet (now («vedge2type» .entry)) (now («vedge2dldr» .entry))) ⌝ }
 {

@@ -1,5 +1,5 @@
 -- 01, "The questions, in order". A call lists the questions it asks, in 01's order; one that it has no matter for is left out.
-use Prim.Native.Nat.{ℕ, _+_, _*_, _/_, _%_}
+use Prim.Native.Nat.{ℕ, _+_, _/_, _%_}
 use mathlib.Core.Bool.{Bool, true, _&&_, _||_, cond}
 use mathlib.Core.List.{List, [], _∷_}
 use lib.Dec.{leb, ltb, eqb}
@@ -17,6 +17,10 @@ ask n a = record { number = n; answer = a }
 unfoldable pub firstNo : List Question → ℕ
 firstNo [] = 0
 firstNo (q ∷ qs) = cond (q .answer) (firstNo qs) (q .number)
+
+-- ".. before any write": what a call was lent is afterwards as it was, if the call was refused
+abbrev pub unlessRefused : {A : Type 0} → ℕ → A → A → A
+unlessRefused code before after = cond (eqb code 0) after before
 
 -- the bounds of 01
 abbrev pub mostSize : ℕ

@@ -1,19 +1,18 @@
 -- Boxes of pixels: empty, split in two, of one pixel, and as the scan of a piece.
 use Prim.Native.Nat.{ℕ, _+_, _*_, _/_, _%_, _≤_, _<_}
-use mathlib.Core.Path.{_≡_, refl, sym, ap, ap₂, _∙_}
+use mathlib.Core.Path.{_≡_, refl, sym, ap₂, _∙_}
 use mathlib.Core.Bool.{Bool, true, false, _&&_, cond}
 use mathlib.Core.Logic.{_⊎_, inl, inr}
 use mathlib.Core.List.{List, [], _++_, append-nil}
-use native.Mathlib.Nat.{div-add-mod', div-lt-iff-lt-mul, mod-lt, mul-add-div-right, mul-add-mod-self-right, mod-eq-of-lt, div-eq-of-lt, add-zero, mul-le-mul-right, mul-comm}
-use native.Mathlib.Numerals.{add-one-le}
+use native.Mathlib.Nat.{div-add-mod', div-lt-iff-lt-mul, mod-lt}
 use native.Mathlib.Omega.{arith}
 use borrow.Author.Tests.{lt-ltb, le-ltb, le-leb, lt-leb, eqb-true, eqb-false}
 use lib.Dec.{leb, ltb, eqb}
 use lib.Ieee.{Float}
 use Rattle.geometry.specs.Vector.{Vec3, Triangle}
-use Rattle.layers.specs.Cell.{Cell}
 use Rattle.layers.specs.Offers.{numbered}
 use Rattle.pixels.specs.Pixel.{centre}
+use Rattle.pixels.specs.Laws.{row-at, column-at}
 use Rattle.rules.specs.Scan.{centreAt, depthAt, candidate, scans, spans, between, least, greatest}
 use Rattle.geometry.specs.Leaf.{finite}
 use Rattle.rules.specs.Laws.Finite.{allFinite, columns-finite, rows-finite}
@@ -21,10 +20,6 @@ use Rattle.raster.specs.Reach.{FirstReached}
 use Rattle.raster.specs.Box.{inRange, boxBrings, boxCells}
 use Rattle.raster.specs.Piece.{pieceCells}
 use Rattle.raster.proofs.Reaching.{below-or, range-is}
-
--- a pixel's number is below the count of pixels
-pub pixel-in : (w h ix iy : ℕ) → ix < w → iy < h → iy * w + ix < w * h
-pixel-in w h ix iy k l = omega (arith, mul-le-mul-right w (add-one-le l), mul-comm w h)
 
 -- ---- ranges
 
@@ -100,15 +95,9 @@ module _ (s : Triangle (Vec3 Float)) (k w : ℕ) where
 
   -- ---- one pixel
 
-  row-at : (ix iy : ℕ) → ix < w → (iy * w + ix) / w ≡ iy
-  row-at ix iy h = mul-add-div-right (omega arith) iy ix ∙ ap (λ (d : ℕ). iy + d) (div-eq-of-lt h) ∙ add-zero iy
-
-  column-at : (ix iy : ℕ) → ix < w → (iy * w + ix) % w ≡ ix
-  column-at ix iy h = mul-add-mod-self-right iy w ix ∙ mod-eq-of-lt h
-
   pub box-here : (ix iy : ℕ) → ix < w → boxCells s k w ix (ix + 1) iy (iy + 1) (iy * w + ix) ≡ numbered k (depthAt s (centreAt ix iy))
   unfolding boxCells boxBrings
-  box-here ix iy h = rw (row-at ix iy h, column-at ix iy h, range-one ix, range-one iy)
+  box-here ix iy h = rw (row-at w iy ix h, column-at w iy ix h, range-one ix, range-one iy)
 
   pub box-elsewhere : (ix iy p : ℕ) → (p ≡ iy * w + ix → ⊥) → boxCells s k w ix (ix + 1) iy (iy + 1) p ≡ []
   unfolding boxCells boxBrings numbered

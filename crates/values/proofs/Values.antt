@@ -12,20 +12,21 @@ use borrow.Author.Tests.{ne-eqb}
 use Rattle.geometry.specs.Arith.{floats}
 use Rattle.geometry.specs.Vector.{Vec3, Weights, Triangle}
 use Rattle.geometry.specs.Formula.{blend}
+use Rattle.pixels.specs.Laws.{number-below}
 use Rattle.rays.specs.Space.{Ray}
 use Rattle.rays.specs.Plane.{planeWeights}
 use Rattle.rays.specs.Pixel.{rayAt, columnAt, rowAt}
-use Rattle.meshes.specs.Mesh.{Face}
+use Rattle.meshes.specs.Mesh.{Face, cornersAt}
 use Rattle.meshes.specs.View.{named, viewOf}
 use Rattle.meshes.specs.Laws.{entry-read}
 use Rattle.layers.specs.Layer.{tabulate}
-use Rattle.layers.specs.Laws.Pixels.{length-tabulate, getD-tabulate}
-use Rattle.values.specs.Pass.{Image, image, Vertices, valueOf, cornersAt}
+use Rattle.layers.specs.Laws.Pixels.{length-tabulate, getD-tabulate, tabulate-same}
+use Rattle.values.specs.Pass.{Image, image, Vertices, valueOf}
 use Rattle.values.specs.Interpolate.{blendOf, valueAt, valueIn, interpolated, interpolateCode, interpolating, outcome}
 use Rattle.values.specs.Steps.{filled}
 use Rattle.values.specs.Laws.Filled.{filled-lent, filled-more, filled-all, length-filled}
-use Rattle.values.specs.Laws.Ranges.{tabulate-same, row-below}
-use Rattle.values.specs.Laws.Pixels.{ray-of-pixel, value-of-pixel, run-below, pixel-below}
+use Rattle.values.specs.Laws.Ranges.{row-below}
+use Rattle.values.specs.Laws.Pixels.{ray-of-pixel, value-of-pixel, run-below}
 
 as-it-was : (xs : List Float) → xs ≡ tabulate (λ j. getD xs j nan) 0 (length xs)
 as-it-was xs =
@@ -86,7 +87,7 @@ module _ (w h : ℕ) (m : List Float) (s : Vertices) (tri map : List ℕ) (iy ix
     at-sum = add-mul (iy * w) ix (s .channels)
 
     run-fits : (iy * w + ix) * s .channels + s .channels ≤ length old
-    run-fits = omega (arith, run-below (iy * w + ix) (w * h) (s .channels) (pixel-below w h iy ix in-image inside))
+    run-fits = omega (arith, run-below (iy * w + ix) (w * h) (s .channels) (number-below inside in-image))
 
     pub row-more : take ((iy * w + ix) * s .channels) cur ++ (new ++ drop k (drop ((iy * w + ix) * s .channels) cur))
         ≡ filled (valueIn (image w h m) s (viewOf tri map)) (iy * w * s .channels) ((ix + 1) * s .channels) old

@@ -4,12 +4,11 @@ ghost use mathlib.Core.List.{List};
 ghost use Prim.Native.Nat.{ℕ, _+_, _*_, _/_, _≤_, _<_};
 ghost use lib.ListN.{length};
 ghost use Rattle.questions.specs.Questions.{firstNo, every, mostCount};
-ghost use Rattle.questions.specs.Laws.{Sized};
+ghost use Rattle.questions.specs.Laws.{Sized, Channels};
 ghost use Rattle.meshes.specs.View.{named, viewOf};
 ghost use Rattle.rays.specs.Pixel.{rayAt};
 ghost use Rattle.values.specs.Pass.{image, span, rayOf};
 ghost use Rattle.values.specs.Questions.{answered, raysAnswer, exactCounts, opening, closing};
-ghost use Rattle.values.specs.Steps.{Channels};
 use rays::PixelRay;
 
 // Questions 1 to 3.

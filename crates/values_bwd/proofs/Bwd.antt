@@ -13,11 +13,11 @@ use Rattle.geometry.specs.Vector.{Vec3, Weights, Triangle}
 use Rattle.rays.specs.Space.{Ray}
 use Rattle.rays.specs.Backward.{Gradients, planeBackward}
 use Rattle.rays.specs.Pixel.{rayAt, columnAt, rowAt}
-use Rattle.meshes.specs.Mesh.{Face}
+use Rattle.meshes.specs.Mesh.{Face, cornersAt}
 use Rattle.meshes.specs.View.{View, named, viewOf}
 use Rattle.meshes.specs.Laws.{entry-read}
 use Rattle.meshes.specs.Sums.{summed}
-use Rattle.values.specs.Pass.{Image, image, Vertices, cornersAt}
+use Rattle.values.specs.Pass.{Image, image, Vertices}
 use Rattle.values.specs.Laws.Pixels.{ray-of-pixel}
 use Rattle.values_bwd.specs.Additions.{incoming, backward, gradientsAt, toXyz, toVal, pixelXyz, pixelVal}
 use Rattle.values_bwd.specs.Bwd.{Sums, sums, incomingAt, xyzAt, valAt, summedOver, bwdCode, outcome, interpolatingBwd}

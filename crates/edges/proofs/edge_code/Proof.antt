@@ -1,8 +1,8 @@
 use Rattle.questions.specs.Questions.{firstNo}
-use Rattle.questions.specs.Laws.{sized, said-no, said-yes}
+use Rattle.questions.specs.Laws.{sized, channelled, said-no, said-yes}
 use Rattle.edges.specs.Gradient.{signal}
 use Rattle.edges.specs.Calls.{sheet, edgeCode}
-use Rattle.edges.specs.Laws.{ready, few}
+use Rattle.edges.specs.Laws.{ready}
 use borrow.Author.Needs.{needs}
 use Rattle.edges.proofs.edge_code.Statement.{statement}
 use Rattle.edges.proofs.edge_code.Tie as tie
@@ -52,7 +52,7 @@ returns-4 c =
     )
 
 lengths-ok-requires : tie.Need-lengths-ok-requires
-lengths-ok-requires c κs = (sized 1 _ _ (said-yes (c .before .before .before .before .before .before .before .sizes-ok .ensures) (c .before .before .before .before .before .before .if1 .left)), few _ (said-yes (c .before .before .before .before .before .channels-ok .ensures) (c .before .before .before .before .if2 .left)))
+lengths-ok-requires c κs = (sized 1 _ _ (said-yes (c .before .before .before .before .before .before .before .sizes-ok .ensures) (c .before .before .before .before .before .before .if1 .left)), channelled _ (said-yes (c .before .before .before .before .before .channels-ok .ensures) (c .before .before .before .before .if2 .left)))
 
 returns-5 : tie.Need-returns-5
 unfolding edgeCode firstNo

@@ -1,14 +1,13 @@
 -- What an accepted call of `clear` or `join` knows, and what a refused one leaves.
 use Prim.Native.Nat.{ℕ, _*_}
-use mathlib.Core.Path.{_≡_, refl, sym, _∙_, ap}
-use mathlib.Core.Bool.{Bool, true, false, cond, _&&_}
-use mathlib.Core.List.{[], _∷_}
-use lib.Dec.{eqb}
+use mathlib.Core.Path.{_≡_}
+use mathlib.Core.Bool.{true, _&&_}
+use mathlib.Core.List.{[]}
 use lib.ListN.{length}
-use borrow.Author.Tests.{eq-eqb, ne-eqb}
-use Rattle.questions.specs.Questions.{sizes, exact, ask, firstNo}
+use borrow.Author.Tests.{ne-eqb}
+use Rattle.questions.specs.Questions.{sizes, exact}
 use Rattle.questions.specs.Laws.{Sized, sized, both, accepted, exactly}
-use Rattle.layers.specs.Layer.{Layer, layer, Outcome, outcome, answer}
+use Rattle.layers.specs.Layer.{Layer, outcome, answer}
 use Rattle.layers.specs.Steps.{Spans}
 use Rattle.layers.specs.Calls.{exactLayer, clearCode, joinCode}
 
