@@ -14,6 +14,8 @@ use Rattle.layers.specs.Offers.{numbered}
 use Rattle.pixels.specs.Pixel.{centre}
 use Rattle.pixels.specs.Laws.{row-at, column-at}
 use Rattle.rules.specs.Scan.{centreAt, depthAt, candidate, scans, spans, between, least, greatest}
+use Rattle.geometry.specs.Leaf.{finite}
+use Rattle.rules.specs.Laws.Finite.{allFinite, columns-finite, rows-finite}
 use Rattle.raster.specs.Reach.{FirstReached}
 use Rattle.raster.specs.Box.{inRange, boxBrings, boxCells}
 use Rattle.raster.specs.Piece.{pieceCells}
@@ -135,24 +137,50 @@ module _ (s : Triangle (Vec3 Float)) (k w : ℕ) where
         ← (range-is _ _ h y0 y1 c d (p / w) (row-in h p l m)),
       )
 
-  -- no centre lies in the columns, or in the rows: nothing is scanned
-  pub no-columns : (h : ℕ) → ((i : ℕ) → i < w → between (least (s .p0 .x) (s .p1 .x) (s .p2 .x)) (greatest (s .p0 .x) (s .p1 .x) (s .p2 .x)) (centre i) ≡ false) → 0 < w → (p : ℕ) → p < w * h → pieceCells s k w p ≡ []
-  unfolding pieceCells candidate scans spans numbered
-  no-columns h e l p m = rw (e (p % w) (column-in p l))
+  -- no candidate anywhere: nothing is brought
+  pub nothing-brought : (h : ℕ) → ((ix iy : ℕ) → ix < w → iy < h → candidate s ix iy ≡ []) → 0 < w → (p : ℕ) → p < w * h → pieceCells s k w p ≡ []
+  unfolding pieceCells numbered
+  nothing-brought h e l p m = rw (e (p % w) (p / w) (column-in p l) (row-in h p l m))
 
-  pub no-rows : (h : ℕ) → ((i : ℕ) → i < h → between (least (s .p0 .y) (s .p1 .y) (s .p2 .y)) (greatest (s .p0 .y) (s .p1 .y) (s .p2 .y)) (centre i) ≡ false) → 0 < w → (p : ℕ) → p < w * h → pieceCells s k w p ≡ []
-  unfolding pieceCells candidate scans spans numbered
-  no-rows h e l p m = rw (e (p / w) (row-in h p l m)) (go (between (least (s .p0 .x) (s .p1 .x) (s .p2 .x)) (greatest (s .p0 .x) (s .p1 .x) (s .p2 .x)) (centre (p % w))))
+-- ---- pixels to which a piece brings nothing
+
+and-no : (t : Bool) → t && false ≡ false
+and-no true = refl
+and-no false = refl
+
+module _ (s : Triangle (Vec3 Float)) (ix iy : ℕ) where
+  -- the column's centre is not in the box, or the row's
+  pub columnless : between (least (s .p0 .x) (s .p1 .x) (s .p2 .x)) (greatest (s .p0 .x) (s .p1 .x) (s .p2 .x)) (centre ix) ≡ false → candidate s ix iy ≡ []
+  unfolding candidate scans spans
+  columnless e = rw e
+
+  pub rowless : between (least (s .p0 .y) (s .p1 .y) (s .p2 .y)) (greatest (s .p0 .y) (s .p1 .y) (s .p2 .y)) (centre iy) ≡ false → candidate s ix iy ≡ []
+  unfolding candidate scans spans
+  rowless e = rw (e, and-no)
+
+  -- the piece has no depth there
+  depthless : depthAt s (centreAt ix iy) ≡ [] → candidate s ix iy ≡ []
+  unfolding candidate
+  depthless e = rw e (go (scans s ix iy))
     where
-      go : (t : Bool) → numbered k (cond (t && false) (depthAt s (centreAt (p % w) (p / w))) []) ≡ []
+      go : (t : Bool) → cond {A = List Float} t [] [] ≡ []
       go true = refl
       go false = refl
 
-  -- no depth anywhere: nothing is brought
-  pub no-depth : ((ix iy : ℕ) → depthAt s (centreAt ix iy) ≡ []) → (p : ℕ) → pieceCells s k w p ≡ []
-  unfolding pieceCells candidate numbered
-  no-depth e p = rw (e (p % w) (p / w)) (go (scans s (p % w) (p / w)))
-    where
-      go : (t : Bool) → numbered k (cond t [] []) ≡ []
-      go true = refl
-      go false = refl
+  -- a column or a row is not finite
+  pub columns-lost : allFinite (s .p0 .x) (s .p1 .x) (s .p2 .x) ≡ false → candidate s ix iy ≡ []
+  columns-lost e = depthless (columns-finite s (centreAt ix iy) e)
+
+  pub rows-lost : allFinite (s .p0 .y) (s .p1 .y) (s .p2 .y) ≡ false → candidate s ix iy ≡ []
+  rows-lost e = depthless (rows-finite s (centreAt ix iy) e)
+
+-- one of three is not finite
+module _ (a b c : Float) where
+  pub first-lost : finite a ≡ false → allFinite a b c ≡ false
+  first-lost e = rw e
+
+  pub second-lost : finite b ≡ false → allFinite a b c ≡ false
+  second-lost e = rw (e, and-no)
+
+  pub third-lost : finite c ≡ false → allFinite a b c ≡ false
+  third-lost e = rw (e, and-no, and-no)
