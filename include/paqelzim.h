@@ -8,8 +8,9 @@
  * reaches that many of them, also where a call then refuses; of an empty slice it is not null all the same. Slices
  * that a call writes overlap no other of its slices.
  *
- * A call that can refuse answers a code: 0 where it is accepted, else the number of the first of these questions
- * that is answered no, and then nothing has been written.
+ * A call that can refuse answers a code: 0 where it is accepted, else the number of the first of its questions, in
+ * rising order, that is answered no, and then nothing has been written. An accepted call writes the places that its
+ * comment names; every other place keeps its bits.
  *   1  are width and height from 1 to 4,096?
  *   2  are channels per pixel from 1 to 16?
  *   3  are vertex and face slices multiples of 3, for at most 1,048,576 vertices and as many faces?
@@ -36,17 +37,18 @@
 extern "C" {
 #endif
 
-/* Writes depth -infinity and the number 4294967295, called empty, at every pixel.
- * Questions 1, 4: both slices have img_w * img_h elements. */
+/* Clears a layer: depth -infinity and the number 4294967295, called empty, at every pixel.
+ * Writes: every place of both slices.
+ * Questions: 1; 4: both slices have img_w * img_h elements. */
 uint32_t paqelzim_clear(uint32_t *pix2tri, size_t pix2tri_len,
                         float *pix2depth, size_t pix2depth_len,
                         size_t img_w, size_t img_h);
 
-/* Draws the faces of tri2vtx (three vertex numbers each) in list order, numbered from first on. Vertices are three
- * numbers each in vtx2xyz; transform_world2ndc has sixteen, column by column. At each pixel a depth is written into
- * pix2depth, and the face's number into pix2tri, where it is greater than the stored one: an equal depth or a NaN
- * never is, and a stored NaN stays. Every other place keeps its bits.
- * Questions 1, 3, 4, 5, 6: pix2tri and pix2depth have img_w * img_h elements. */
+/* Draws the faces of tri2vtx (three vertex numbers each) on a layer, in list order, numbered from first on. Vertices
+ * are three numbers each in vtx2xyz; transform_world2ndc has sixteen, column by column. A depth is written, with the
+ * face's number, where it is greater than the stored one: an equal depth or a NaN never is, and a stored NaN stays.
+ * Writes: pix2tri and pix2depth, at the pixels to which a face brings a greater depth.
+ * Questions: 1; 3; 4: pix2tri and pix2depth have img_w * img_h elements; 5; 6. */
 uint32_t paqelzim_pix2tri_by_rasterization(uint32_t *pix2tri, size_t pix2tri_len,
                                            float *pix2depth, size_t pix2depth_len,
                                            const uint32_t *tri2vtx, size_t tri2vtx_len,
@@ -54,20 +56,21 @@ uint32_t paqelzim_pix2tri_by_rasterization(uint32_t *pix2tri, size_t pix2tri_len
                                            size_t img_w, size_t img_h,
                                            const float *transform_world2ndc, uint32_t first);
 
-/* Writes into the left layer, at each pixel where the right layer's depth is greater, that depth and its number;
- * every other place of the left keeps its bits. A NaN is never greater, and nothing is greater than a NaN.
- * Questions 1, 4: all four slices have img_w * img_h elements. */
+/* Joins two layers: where the right layer's depth is greater, that depth and its number go into the left. A NaN is
+ * never greater, and nothing is greater than a NaN.
+ * Writes: the left layer, where the right depth is greater.
+ * Questions: 1; 4: all four slices have img_w * img_h elements. */
 uint32_t paqelzim_join(uint32_t *left_pix2tri, size_t left_pix2tri_len,
                        float *left_pix2depth, size_t left_pix2depth_len,
                        const uint32_t *right_pix2tri, size_t right_pix2tri_len,
                        const float *right_pix2depth, size_t right_pix2depth_len,
                        size_t img_w, size_t img_h);
 
-/* Writes into pix2val, num_vdim numbers a pixel, at each pixel whose entry in the map pix2tri is not empty, the
- * values of its face's vertices (vtx2val, num_vdim a vertex), weighted where the ray through the pixel's centre meets
- * the plane of the face. An empty pixel keeps its bits. transform_ndc2world has sixteen numbers, column by column.
- * Questions 1, 2, 3, 4, 6, 7, 8: pix2tri has img_w * img_h elements, vtx2val num_vdim for each vertex, pix2val
- * num_vdim for each pixel; 8 asks of the two points of each ray that is needed. */
+/* Gives each pixel the values of its face's vertices (vtx2val, num_vdim a vertex), weighted where the ray through the
+ * pixel's centre meets the plane of the face. transform_ndc2world has sixteen numbers, column by column.
+ * Writes: pix2val, num_vdim numbers a pixel, at the pixels whose entry in the map pix2tri is not empty.
+ * Questions: 1; 2; 3; 4: pix2tri has img_w * img_h elements, vtx2val num_vdim for each vertex, pix2val num_vdim for each
+ * pixel; 6; 7; 8: both points of the ray of each pixel that is not empty. */
 uint32_t paqelzim_interpolate(size_t img_w, size_t img_h,
                               const uint32_t *pix2tri, size_t pix2tri_len,
                               const uint32_t *tri2vtx, size_t tri2vtx_len,
@@ -77,10 +80,11 @@ uint32_t paqelzim_interpolate(size_t img_w, size_t img_h,
                               const float *transform_ndc2world,
                               float *pix2val, size_t pix2val_len);
 
-/* Adds to dldw_vtx2xyz and dldw_vtx2val, for the corners of each pixel's face, pixels in rising number, what the
- * gradient dldw_pix2val of the pixel's values brings them. A vertex of no face in the map keeps its bits.
- * Questions 1, 2, 3, 4, 6, 7, 8: lengths as above; dldw_pix2val as pix2val, dldw_vtx2xyz as vtx2xyz, dldw_vtx2val as
- * vtx2val. */
+/* Goes back through paqelzim_interpolate: adds what the gradient dldw_pix2val of the pixels' values brings the vertices
+ * and their values, pixels in rising number.
+ * Writes: adds to dldw_vtx2xyz and dldw_vtx2val, at the corners of the faces that the map names.
+ * Questions: 1; 2; 3; 4: lengths as above, dldw_pix2val as pix2val there, dldw_vtx2xyz as vtx2xyz, dldw_vtx2val as
+ * vtx2val; 6; 7; 8: as above. */
 uint32_t paqelzim_interpolate_bwd(size_t img_w, size_t img_h,
                                   const uint32_t *pix2tri, size_t pix2tri_len,
                                   const uint32_t *tri2vtx, size_t tri2vtx_len,
@@ -92,12 +96,14 @@ uint32_t paqelzim_interpolate_bwd(size_t img_w, size_t img_h,
                                   float *dldw_vtx2xyz, size_t dldw_vtx2xyz_len,
                                   float *dldw_vtx2val, size_t dldw_vtx2val_len);
 
-/* Writes type and gradient of every pair of neighbouring pixels: hedges between a pixel and the one below it, vedges
+/* Gives every pair of neighbouring pixels a type and a gradient: hedges between a pixel and the one below it, vedges
  * between a pixel and the one to its right. Where the map's entries are equal the type is 0, else 1 where one centre
- * at least lies inside the other's face.
- * Questions 1, 2, 3, 4, 6, 7, 8: pix2val and dldw_pix2val have num_vdim numbers a pixel, the hedge buffers
- * (img_h - 1) * img_w, the vedge buffers img_h * (img_w - 1); 8 asks of the corners of both faces of each unequal
- * pair. */
+ * at least lies inside the other's face; an empty neighbour contains every point. The gradient is that of the edge moved
+ * right or down: over the channels, the mean of the two incoming gradients times the difference of the values.
+ * Writes: every place of the four edge slices.
+ * Questions: 1; 2; 3; 4: pix2tri has img_w * img_h elements, pix2val and dldw_pix2val num_vdim for each pixel, the hedge
+ * slices (img_h - 1) * img_w, the vedge slices img_h * (img_w - 1); 6; 7; 8: the corners of both faces of each pair of
+ * unequal entries. */
 uint32_t paqelzim_edge_gradient_and_type(const uint32_t *tri2vtx, size_t tri2vtx_len,
                                          const float *vtx2xyz, size_t vtx2xyz_len,
                                          const float *transform_world2pix,
@@ -111,11 +117,12 @@ uint32_t paqelzim_edge_gradient_and_type(const uint32_t *tri2vtx, size_t tri2vtx
                                          uint8_t *vedge2type, size_t vedge2type_len,
                                          float *vedge2dldr, size_t vedge2dldr_len);
 
-/* Adds to dldw_vtx2xyz, pair by pair, columns from the left and each from the top, first of the hedges and then of the
- * vedges, what each pair of unlike pixels brings the corners of its faces: of the face in front, or of both where they
- * cross. A vertex of no face in the map keeps its bits.
- * Questions 1, 2, 3, 4, 6, 7, 8, 9: dldw_vtx2xyz as vtx2xyz, pix2val and dldw_pix2val num_vdim numbers a pixel; 9 asks of
- * the weights of each point that a share is taken from. */
+/* Goes back through the edges: adds what each pair of unequal entries brings the corners of its faces: of the face in
+ * front, or of both where they cross. Pairs go column by column from the left and each from the top, first the
+ * hedges, then the vedges.
+ * Writes: adds to dldw_vtx2xyz, at the corners of faces that the map names.
+ * Questions: 1; 2; 3; 4: dldw_vtx2xyz is as long as vtx2xyz, pix2tri has img_w * img_h elements, pix2val and dldw_pix2val
+ * num_vdim for each pixel; 6; 7; 8: as above; 9: each point that a share is taken from. */
 uint32_t paqelzim_bwd(const uint32_t *tri2vtx, size_t tri2vtx_len,
                       const float *vtx2xyz, size_t vtx2xyz_len,
                       float *dldw_vtx2xyz, size_t dldw_vtx2xyz_len,
@@ -126,8 +133,10 @@ uint32_t paqelzim_bwd(const uint32_t *tri2vtx, size_t tri2vtx_len,
                       const float *pix2val, size_t pix2val_len,
                       const float *dldw_pix2val, size_t dldw_pix2val_len);
 
-/* Writes at each point of vtx2xy (two numbers, in pixels) the velocity between the edges of its cell, into vtx2velo.
- * Questions 1 (width and height from 2), 3 (vtx2xy a multiple of 2, for at most 1,048,576 points), 4: hedge2vy has
+/* Gives each point of vtx2xy (two numbers, in pixels) the velocity between the edges of its cell: x from the vedges, y
+ * from the hedges.
+ * Writes: every place of vtx2velo.
+ * Questions: 1: width and height from 2; 3: vtx2xy is a multiple of 2, for at most 1,048,576 points; 4: hedge2vy has
  * (img_h - 1) * img_w elements, vedge2vx img_h * (img_w - 1), vtx2velo as many as vtx2xy. */
 uint32_t paqelzim_interpolate_from_edges(size_t img_w, size_t img_h,
                                          const float *hedge2vy, size_t hedge2vy_len,

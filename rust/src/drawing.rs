@@ -20,8 +20,34 @@ mod ffi {
     }
 }
 
-/// Draws the faces in list order, numbered from `first` on: at each pixel a depth is written, with the face's
-/// number, where it is greater than the stored one. Questions 1, 3, 4, 5 and 6.
+/// Draws the faces of a mesh on a layer, in list order, numbered from `first` on.
+///
+/// A face brings a pixel a depth where the pixel's centre lies in it, as it is projected by `transform_world2ndc` and
+/// clipped at the near plane. The depth is written, with the face's number, where it is greater than the stored one:
+/// an equal depth or a NaN never is, and a stored NaN stays.
+///
+/// Writes: both slices, at the pixels to which a face brings a greater depth.
+///
+/// Questions: [1](Refusal::ImageSize), [3](Refusal::MeshSize), [4](Refusal::BufferLength): `pix2tri` and `pix2depth`
+/// have `img_w * img_h` elements, [5](Refusal::FaceNumbers), [6](Refusal::VertexNumber).
+///
+/// ```
+/// let identity: [f32; 16] = std::array::from_fn(|i| if i % 5 == 0 { 1. } else { 0. });
+/// let vtx2xyz = [-1., -1., 0.25, 3., -1., 0.25, -1., 3., 0.25];
+/// let (mut pix2tri, mut pix2depth) = ([u32::MAX; 4], [f32::NEG_INFINITY; 4]);
+/// // The same face twice: the second is not greater.
+/// paqelzim::pix2tri_by_rasterization(
+///     &mut pix2tri, &mut pix2depth, &[0, 1, 2, 0, 1, 2], &vtx2xyz, 2, 2, &identity, 10,
+/// )?;
+/// assert_eq!((pix2tri, pix2depth), ([10; 4], [0.25; 4]));
+///
+/// // There is no vertex 3.
+/// let refused = paqelzim::pix2tri_by_rasterization(
+///     &mut pix2tri, &mut pix2depth, &[0, 1, 3], &vtx2xyz, 2, 2, &identity, 10,
+/// );
+/// assert_eq!(refused, Err(paqelzim::Refusal::VertexNumber));
+/// # Ok::<(), paqelzim::Refusal>(())
+/// ```
 #[allow(clippy::too_many_arguments)]
 pub fn pix2tri_by_rasterization(
     pix2tri: &mut [u32],

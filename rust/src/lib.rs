@@ -1,7 +1,38 @@
-//! The calls of the library, safe over slices.
+//! Mesh drawing, value interpolation and edge gradients: the calls of the library, safe over slices.
 //!
 //! The archive behind them is proved: each call gives what the definitions in `crates/*/specs` say, for
 //! every argument. This package only passes pointers and lengths on, and turns a code into a [`Refusal`].
+//!
+//! - An image has `img_w * img_h` pixels, row by row from the top. A *layer* is two slices of that length: the map
+//!   `pix2tri`, the number of a face or 4294967295 (*empty*) for each pixel, and the depths `pix2depth`.
+//! - A mesh is two flat slices: `tri2vtx`, three vertex numbers a face, and `vtx2xyz`, three numbers a vertex.
+//! - Values are `num_vdim` numbers a vertex (`vtx2val`) or a pixel (`pix2val`). A name that begins with `dldw_` is the
+//!   gradient of what follows.
+//! - A matrix has sixteen numbers, column by column. In normal device coordinates x goes to the right, y up, and
+//!   the greater depth is in front.
+//!
+//! A call that can refuse asks its questions in rising number before it writes anything. The first that is answered
+//! no is the [`Refusal`], and then every slice is as it was. Each call's page names its questions and the places
+//! that an accepted call writes; every other place keeps its bits.
+//!
+//! ```
+//! // One face over the whole of a picture of 2 x 2 pixels, drawn and given values.
+//! let identity: [f32; 16] = std::array::from_fn(|i| if i % 5 == 0 { 1. } else { 0. });
+//! let tri2vtx = [0, 1, 2];
+//! let vtx2xyz = [-1., -1., 0.25, 3., -1., 0.25, -1., 3., 0.25];
+//! let (mut pix2tri, mut pix2depth) = ([0; 4], [0.; 4]);
+//! paqelzim::clear(&mut pix2tri, &mut pix2depth, 2, 2)?;
+//! paqelzim::pix2tri_by_rasterization(
+//!     &mut pix2tri, &mut pix2depth, &tri2vtx, &vtx2xyz, 2, 2, &identity, 0,
+//! )?;
+//! assert_eq!((pix2tri, pix2depth), ([0; 4], [0.25; 4]));
+//! let mut pix2val = [0.; 4];
+//! paqelzim::interpolate(
+//!     2, 2, &pix2tri, &tri2vtx, &vtx2xyz, 1, &[0., 8., 16.], &identity, &mut pix2val,
+//! )?;
+//! assert_eq!(pix2val, [7., 9., 3., 5.]);
+//! # Ok::<(), paqelzim::Refusal>(())
+//! ```
 
 mod drawing;
 mod edges;

@@ -43,8 +43,27 @@ mod ffi {
     }
 }
 
-/// Writes, at each pixel that is not empty, the vertex values weighted where the pixel's ray meets the plane of
-/// its face; an empty pixel keeps its bits. Questions 1, 2, 3, 4, 6, 7 and 8.
+/// Gives each pixel the values of its face's vertices, weighted where the ray through the pixel's centre meets the
+/// plane of the face.
+///
+/// Writes: `pix2val`, at the pixels that are not empty.
+///
+/// Questions: [1](Refusal::ImageSize), [2](Refusal::Channels), [3](Refusal::MeshSize), [4](Refusal::BufferLength):
+/// `pix2tri` has `img_w * img_h` elements, `vtx2val` `num_vdim` for each vertex, `pix2val` `num_vdim` for each pixel,
+/// [6](Refusal::VertexNumber), [7](Refusal::MapEntry), [8](Refusal::Projection): both points of the ray of each pixel
+/// that is not empty.
+///
+/// ```
+/// let identity: [f32; 16] = std::array::from_fn(|i| if i % 5 == 0 { 1. } else { 0. });
+/// let vtx2xyz = [-1., -1., 0.25, 3., -1., 0.25, -1., 3., 0.25];
+/// let mut pix2val = [-1.; 4];
+/// let map = [0, u32::MAX, 0, 0]; // the second pixel is empty
+/// paqelzim::interpolate(
+///     2, 2, &map, &[0, 1, 2], &vtx2xyz, 1, &[0., 8., 16.], &identity, &mut pix2val,
+/// )?;
+/// assert_eq!(pix2val, [7., -1., 3., 5.]);
+/// # Ok::<(), paqelzim::Refusal>(())
+/// ```
 #[allow(clippy::too_many_arguments)]
 pub fn interpolate(
     img_w: usize,
@@ -79,8 +98,28 @@ pub fn interpolate(
     })
 }
 
-/// Adds to the gradients of vertices and of their values what the gradient of each pixel's value brings them,
-/// pixels in rising number. Questions 1, 2, 3, 4, 6, 7 and 8.
+/// Goes back through [`interpolate`]: adds what the gradient `dldw_pix2val` of the pixels' values brings the vertices
+/// and their values, pixels in rising number.
+///
+/// Writes: adds to `dldw_vtx2xyz` and `dldw_vtx2val`, at the corners of the faces that the map names.
+///
+/// Questions: [1](Refusal::ImageSize), [2](Refusal::Channels), [3](Refusal::MeshSize), [4](Refusal::BufferLength):
+/// lengths as in [`interpolate`], `dldw_pix2val` as `pix2val` there, `dldw_vtx2xyz` as `vtx2xyz`, `dldw_vtx2val` as
+/// `vtx2val`, [6](Refusal::VertexNumber), [7](Refusal::MapEntry), [8](Refusal::Projection): as in [`interpolate`].
+///
+/// ```
+/// let identity: [f32; 16] = std::array::from_fn(|i| if i % 5 == 0 { 1. } else { 0. });
+/// let vtx2xyz = [-1., -1., 0.25, 3., -1., 0.25, -1., 3., 0.25];
+/// let (mut dldw_vtx2xyz, mut dldw_vtx2val) = ([0.; 9], [0.; 3]);
+/// // The gradient of the last pixel's value alone: its weights are the gradient of the vertices' values.
+/// paqelzim::interpolate_bwd(
+///     2, 2, &[0; 4], &[0, 1, 2], &vtx2xyz, 1, &[0., 8., 16.], &identity, &[0., 0., 0., 1.],
+///     &mut dldw_vtx2xyz, &mut dldw_vtx2val,
+/// )?;
+/// assert_eq!(dldw_vtx2val, [0.5, 0.375, 0.125]);
+/// assert_eq!(dldw_vtx2xyz[0], -1.0); // as the first vertex goes right by 1, the value there falls by 1
+/// # Ok::<(), paqelzim::Refusal>(())
+/// ```
 #[allow(clippy::too_many_arguments)]
 pub fn interpolate_bwd(
     img_w: usize,

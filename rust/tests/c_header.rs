@@ -1,16 +1,17 @@
-//! A program in C and in C++ that includes the header links with the archive and runs.
+//! Programs in C and in C++ that include the header link with the archive and run.
 use std::path::Path;
 use std::process::Command;
 
-/// Compiles `tests/c/calls.c` by the compiler and the words, without a warning, links the archive and runs it.
-fn compiled_and_run(compiler: &str, words: &[&str], name: &str) {
+/// Compiles `tests/c/NAME.c` by the compiler and the words, without a warning, links the archive, runs it, and gives
+/// what it printed.
+fn compiled_and_run(compiler: &str, words: &[&str], name: &str) -> String {
     let package = Path::new(env!("CARGO_MANIFEST_DIR"));
-    let program = Path::new(env!("CARGO_TARGET_TMPDIR")).join(name);
+    let program = Path::new(env!("CARGO_TARGET_TMPDIR")).join(format!("{name}_{compiler}"));
     let compiled = Command::new(compiler)
         .args(words)
         .args(["-Wall", "-Wextra", "-Werror", "-pedantic", "-O2", "-I"])
         .arg(package.join("../include"))
-        .arg(package.join("tests/c/calls.c"))
+        .arg(package.join(format!("tests/c/{name}.c")))
         .args(["-x", "none"])
         .arg(Path::new(env!("OUT_DIR")).join("libpaqelzim.a"))
         .arg("-o")
@@ -23,19 +24,30 @@ fn compiled_and_run(compiler: &str, words: &[&str], name: &str) {
         String::from_utf8_lossy(&compiled.stderr)
     );
     let ran = Command::new(&program).output().expect("the program runs");
-    assert!(
-        ran.status.success(),
-        "{}",
-        String::from_utf8_lossy(&ran.stdout)
-    );
+    let printed = String::from_utf8_lossy(&ran.stdout).into_owned();
+    assert!(ran.status.success(), "{printed}");
+    printed
+}
+
+const C11: (&str, &[&str]) = ("gcc", &["-std=c11"]);
+const CPP17: (&str, &[&str]) = ("g++", &["-x", "c++", "-std=c++17"]);
+
+/// Every call, each number checked by the program itself.
+#[test]
+fn calls_as_c11() {
+    assert_eq!(compiled_and_run(C11.0, C11.1, "calls"), "");
 }
 
 #[test]
-fn as_c11() {
-    compiled_and_run("gcc", &["-std=c11"], "calls_c");
+fn calls_as_cpp17() {
+    assert_eq!(compiled_and_run(CPP17.0, CPP17.1, "calls"), "");
 }
 
+/// The example prints what the show program does.
 #[test]
-fn as_cpp17() {
-    compiled_and_run("g++", &["-x", "c++", "-std=c++17"], "calls_cpp");
+fn example_as_c11_and_cpp17() {
+    let shown = include_str!("../../crates/show/stdout");
+    for (compiler, words) in [C11, CPP17] {
+        assert_eq!(compiled_and_run(compiler, words, "two_faces"), shown);
+    }
 }

@@ -1,16 +1,14 @@
 -- What an accepted call of `pix2tri_by_rasterization` knows, and the outcome of a refused and of an accepted one.
-use Prim.Native.Nat.{ℕ, zero, suc, _+_, _*_, _/_, _%_, _≤_, _<_}
+use Prim.Native.Nat.{ℕ, _+_, _*_, _/_, _≤_}
 use mathlib.Core.Path.{_≡_, sym, ap, _∙_}
-use mathlib.Core.Bool.{Bool, true, _&&_}
-use mathlib.Core.List.{List, [], _∷_}
-use native.Mathlib.Nat.{not-suc-le-zero, le-of-suc-le-suc}
-use borrow.Author.Tests.{ltb-true, leb-true, eqb-true}
-use lib.Dec.{ltb, leb, eqb}
-use lib.ListN.{length, getD}
+use mathlib.Core.Bool.{true, _&&_}
+use mathlib.Core.List.{List, []}
+use borrow.Author.Tests.{leb-true}
+use lib.ListN.{length}
 use lib.Ieee.{Float}
-use Rattle.questions.specs.Questions.{firstNo, sizes, groups, numbers, every, allBelow, mostCount}
-use Rattle.questions.specs.Laws.{Sized, sized, both, accepted}
-use Rattle.layers.specs.Layer.{Layer, Outcome, outcome, answer}
+use Rattle.questions.specs.Questions.{sizes, groups, numbers, allBelow, mostCount}
+use Rattle.questions.specs.Laws.{Sized, sized, grouped, both, accepted, below-at}
+use Rattle.layers.specs.Layer.{Layer, outcome}
 use Rattle.layers.specs.Steps.{Spans}
 use Rattle.layers.specs.Calls.{exactLayer}
 use Rattle.layers.specs.Laws.Answers.{refusal, acceptance, exact-spans}
@@ -19,16 +17,6 @@ use Rattle.rules.specs.Offers.{scene}
 use Rattle.rules.specs.Draw.{drawn}
 use Rattle.rules.specs.Calls.{drawCode, draws}
 use Rattle.raster.specs.Face.{Mesh}
-
-below-at : (n : ℕ) (vs : List ℕ) → allBelow n vs ≡ true → (i : ℕ) → i < length vs → getD vs i 0 < n
-unfolding every
-below-at n [] e i h = absurd (not-suc-le-zero h)
-below-at n (v ∷ vs) e zero h = ltb-true v n (both (ltb v n) _ e .0)
-below-at n (v ∷ vs) e (suc i) h = below-at n vs (both (ltb v n) _ e .1) i (le-of-suc-le-suc h)
-
-threes : (n : ℕ) → groups 3 n ≡ true → n % 3 ≡ 0
-unfolding groups
-threes n e = eqb-true (n % 3) 0 (both (eqb (n % 3) 0) _ e .0)
 
 fits : (first faces : ℕ) → numbers first faces ≡ true → first + faces ≤ 1048576
 unfolding numbers
@@ -48,8 +36,8 @@ module _ (l : Layer) (tri : List ℕ) (xyz : List Float) (w h first : ℕ) where
         (
           exact-spans w h l (q4 .0),
           record {
-            threes = threes (length tri) (slices .1);
-            vertices = threes (length xyz) (slices .0);
+            threes = grouped 3 (length tri) (slices .1) .rest;
+            vertices = grouped 3 (length xyz) (slices .0) .rest;
             corners = below-at (length xyz / 3) tri (q6 .0);
             numbered-to = fits first (length tri / 3) (q5 .0);
           },

@@ -1,30 +1,22 @@
 -- What the answered questions say, and from the steps of `bwd` to the call's whole outcome.
-use Prim.Native.Nat.{ℕ, _*_, _/_, _%_, _<_}
-use mathlib.Core.Path.{_≡_, refl, sym, _∙_, ap}
-use mathlib.Core.Bool.{Bool, true, _&&_}
-use mathlib.Core.List.{List, [], _∷_, _++_}
-use native.Mathlib.Nat.{div-add-mod}
-use native.Mathlib.Omega.{arith}
-use borrow.Author.Tests.{eq-eqb, ne-eqb, eqb-true}
-use lib.Dec.{eqb}
+use Prim.Native.Nat.{ℕ, _*_, _/_}
+use mathlib.Core.Path.{_≡_, ap}
+use mathlib.Core.Bool.{true, _&&_}
+use mathlib.Core.List.{List}
+use borrow.Author.Tests.{eq-eqb}
 use lib.Ieee.{Float}
 use lib.ListN.{length}
 use Rattle.questions.specs.Questions.{sizes, channels, groups, exact, allBelow, namesFaces}
-use Rattle.questions.specs.Laws.{sized, both, accepted, exactly}
+use Rattle.questions.specs.Laws.{sized, channelled, grouped, whole, both, accepted, exactly, untouched}
 use Rattle.meshes.specs.Sums.{summed}
 use Rattle.pixels.specs.Edge.{hedge, vedge}
 use Rattle.edges.specs.Types.{Sight}
 use Rattle.edges.specs.Gradient.{Signal}
 use Rattle.edges.specs.Calls.{allAnswered}
 use Rattle.edges.specs.Steps.{SoundMap, SoundSignal}
-use Rattle.edges.specs.Laws.{few}
 use Rattle.edge_bwd.specs.Additions.{axisAdditions, passAdditions}
-use Rattle.edge_bwd.specs.Calls.{exactBwd, ofPairs, bwdCode, outcome, answer, edgeBwd}
+use Rattle.edge_bwd.specs.Calls.{exactBwd, bwdCode, outcome, answer, edgeBwd}
 use Rattle.edge_bwd.proofs.Sums.{then}
-
-whole : (of n : ℕ) → groups of n ≡ true → of * (n / of) ≡ n
-unfolding groups
-whole of n e = let z : n % of ≡ 0 = eqb-true _ _ (both (eqb (n % of) 0) _ e .0) in omega (arith, div-add-mod n of)
 
 -- the first seven questions, answered yes
 pub record Ready (tri map : List ℕ) (xyz : List Float) (w h : ℕ) (v : Signal) (dxyz : List Float) : Type 0 where
@@ -43,12 +35,12 @@ ready tri map xyz w h v dxyz q1 q2 q3 q3' q4 q6 q7 =
     record {
       image =
           record {
-            mesh = record { faces = whole 3 (length tri) q3; vertices = whole 3 (length xyz) q3'; named = q6 };
+            mesh = record { faces = whole 3 (length tri) (grouped 3 _ q3); vertices = whole 3 (length xyz) (grouped 3 _ q3'); named = q6 };
             size = sized 1 w h q1;
             whole = exactly _ _ (a .0);
             named = q7;
           };
-      signals = record { few = few (v .channels) q2; values = exactly _ _ (b .0); gradients = exactly _ _ (c .0) };
+      signals = record { few = channelled (v .channels) q2; values = exactly _ _ (b .0); gradients = exactly _ _ (c .0) };
       sums = exactly _ _ (c .1);
     }
 
@@ -71,7 +63,7 @@ module _ (tri map : List ℕ) (h : ℕ) (s : Sight) (v : Signal) (dxyz : List Fl
   module _ (code : ℕ) (e : code ≡ bwdCode tri map h s v dxyz) where
     pub bwd-refused : (code ≡ 0 → ⊥) → outcome code dxyz ≡ edgeBwd tri map h s v dxyz
     unfolding edgeBwd answer
-    bwd-refused no0 = rw (← e, ne-eqb code 0 no0)
+    bwd-refused no0 = rw (← e) (ap (outcome code) (untouched code _ no0))
 
     pub bwd-done : (mid after : List Float) → code ≡ 0 → mid ≡ summed dxyz (axisAdditions hedge h s v) → after ≡ summed mid (axisAdditions vedge h s v)
         → outcome 0 after ≡ edgeBwd tri map h s v dxyz

@@ -1,13 +1,13 @@
 -- The cases of a pair: what its shares are, once the tests are answered and the faces have their projections.
 use Prim.Native.Nat.{ℕ, _*_, _/_}
 use mathlib.Core.Path.{_≡_, refl, sym, _∙_, ap, ap₂}
-use mathlib.Core.Bool.{Bool, true, false, _&&_, _||_, cond}
-use mathlib.Core.Option.{Option, none, some}
+use mathlib.Core.Bool.{Bool, true, false, _&&_, _||_, and-true, cond}
+use mathlib.Core.Option.{none, some}
 use mathlib.Core.List.{List, [], _∷_, _++_, flatMap, append-nil}
 use lib.Ieee.{Float}
 use lib.ListN.{length}
 use Rattle.questions.specs.Questions.{allBelow}
-use Rattle.geometry.specs.Vector.{Vec2, Vec3, Weights, Projected, Triangle}
+use Rattle.geometry.specs.Vector.{Vec2, Vec3, Projected, Triangle}
 use Rattle.meshes.specs.Mesh.{Face}
 use Rattle.meshes.specs.Sums.{Addition}
 use Rattle.edges.specs.Inside.{contains, weightsIn, projectFace, present}
@@ -38,10 +38,6 @@ pub or-false : (a : Bool) {b : Bool} → b ≡ false → a ≡ a || b
 or-false true e = refl
 or-false false e = sym e
 
-and-true : (b : Bool) → b ≡ b && true
-and-true true = refl
-and-true false = refl
-
 -- ---- one face
 
 module _ {m xyz : List Float} {f : Face} {x : Triangle (Vec3 Float)} {t : Triangle (Projected Float)} (o : TriOf m xyz f x t) where
@@ -62,7 +58,7 @@ module _ {m xyz : List Float} {f : Face} {x : Triangle (Vec3 Float)} {t : Triang
 
   one-weighs : (q : Vec2 Float) (pull : Float → Vec3 Float) → present (worldIn q (some t)) ≡ weighableAll m xyz (share f q pull ∷ [])
   unfolding weighableAll weighable
-  one-weighs q pull = ap present (sym (world-is q)) ∙ and-true (present (worldIn q (projectFace m xyz f)))
+  one-weighs q pull = ap present (sym (world-is q)) ∙ sym (and-true (present (worldIn q (projectFace m xyz f))))
 
 -- ---- two faces
 
@@ -95,7 +91,7 @@ module _ {m xyz : List Float} {f0 f1 : Face} {x0 x1 : Triangle (Vec3 Float)} {t0
     where
       go : (b : Bool) {w0 w1 : Bool} (h0 h1 : Share) → w0 ≡ weighable m xyz h0 → w1 ≡ weighable m xyz h1 → b || (w0 && w1) ≡ weighableAll m xyz (cond b [] (h0 ∷ h1 ∷ []))
       go true h0 h1 e0 e1 = refl
-      go false h0 h1 e0 e1 = ap₂ _&&_ e0 (e1 ∙ and-true (weighable m xyz h1))
+      go false h0 h1 e0 e1 = ap₂ _&&_ e0 (e1 ∙ sym (and-true (weighable m xyz h1)))
 
   -- the four cases, of what is added ..
   module _ (d : Float) where
@@ -169,7 +165,7 @@ module _ (m xyz : List Float) (f : Face) (axis : ℕ) (q0 q1 : Vec2 Float) where
     where
       go : (b : Bool) → b || present (worldIn q1 (projectFace m xyz f)) ≡ weighableAll m xyz (received b true [] [] (share f q1 (along axis) ∷ []))
       go true = refl
-      go false = and-true (present (worldIn q1 (projectFace m xyz f)))
+      go false = sym (and-true (present (worldIn q1 (projectFace m xyz f))))
 
   pub weighs-before-empty : contains allInside m xyz (some f) q1 || present (worldIn q0 (projectFace m xyz f)) ≡ weighableAll m xyz (between axis m xyz (some f) none q0 q1)
   unfolding between together contains alone received weighableAll weighable
@@ -177,4 +173,4 @@ module _ (m xyz : List Float) (f : Face) (axis : ℕ) (q0 q1 : Vec2 Float) where
     where
       go : (b : Bool) → b || present (worldIn q0 (projectFace m xyz f)) ≡ weighableAll m xyz (received true b [] (share f q0 (along axis) ∷ []) [])
       go true = refl
-      go false = and-true (present (worldIn q0 (projectFace m xyz f)))
+      go false = sym (and-true (present (worldIn q0 (projectFace m xyz f))))

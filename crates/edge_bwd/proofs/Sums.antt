@@ -1,5 +1,5 @@
 -- From the steps of a share to the additions it makes.
-use mathlib.Core.Path.{_≡_, refl, sym, _∙_, ap}
+use mathlib.Core.Path.{_≡_, sym, _∙_, ap}
 use mathlib.Core.Option.{some}
 use mathlib.Core.List.{List, [], _∷_, _++_}
 use lib.Ieee.{Float}
@@ -11,7 +11,7 @@ use Rattle.meshes.specs.Mesh.{Face}
 use Rattle.meshes.specs.Sums.{Addition, added, summed}
 use Rattle.tris.specs.Tri.{pointOn}
 use Rattle.edge_bwd.specs.Additions.{toFace, toPoint, spread}
-use Rattle.edge_bwd.specs.Laws.Sums.{summed-append}
+use Rattle.meshes.specs.Laws.{summed-append}
 
 pub three : (s : List Float) {s1 s2 s3 : List Float} (a b c : Addition) → s1 ≡ added s a → s2 ≡ added s1 b → s3 ≡ added s2 c → s3 ≡ summed s (a ∷ b ∷ c ∷ [])
 unfolding summed

@@ -1,30 +1,22 @@
 -- The loop over an axis's pairs, column by column: what holds before turn i.
-use Prim.Native.Nat.{ℕ, zero, suc, _+_, _-_, _*_, _/_, _%_, _<_, _≤_}
+use Prim.Native.Nat.{ℕ, _+_, _-_, _*_, _<_, _≤_}
 use mathlib.Core.Path.{_≡_, refl, sym, _∙_, ap, ap₂}
-use mathlib.Core.Logic.{_⊎_, ⊎-elim}
-use mathlib.Core.Bool.{Bool, true, false, _&&_}
-use mathlib.Core.List.{List, []}
-use native.Mathlib.Nat.{not-suc-le-zero, le-of-suc-le-suc, eq-or-lt-of-le, mul-comm}
+use mathlib.Core.Bool.{true}
+use mathlib.Core.List.{List}
+use native.Mathlib.Nat.{mul-comm}
 use native.Mathlib.Numerals.{add-one}
 use native.Mathlib.Omega.{arith}
 use lib.Ieee.{Float}
 use lib.ListN.{length}
-use Rattle.questions.specs.Laws.{both}
 use Rattle.meshes.specs.Sums.{Addition, summed}
-use Rattle.pixels.specs.Edge.{Axis, axis, Edge, edgeAt, edgeFrom, rows, perRow, edgeCount}
+use Rattle.pixels.specs.Edge.{axis, Edge, edgeAt, edgeFrom, rows}
 use Rattle.pixels.specs.Laws.{Walked, walked-none, walked-more, Follows, walked-edge, in-row, in-column, number-below}
 use Rattle.edges.specs.Types.{Sight, answered}
-use Rattle.edges.specs.Calls.{all, allAnswered}
+use Rattle.edges.specs.Calls.{allAnswered}
 use Rattle.edges.specs.Steps.{Within}
+use Rattle.edges.specs.Laws.{all-at}
 use Rattle.edge_bwd.specs.Additions.{inTurn, edgeDown}
 use Rattle.edge_bwd.proofs.Sums.{then}
-
--- what every place passes, one passes
-pub all-at : (t : ℕ → Bool) (n i : ℕ) → all t n ≡ true → i < n → t i ≡ true
-unfolding all
-all-at t zero i e h = absurd (not-suc-le-zero h)
-all-at t (suc n) i e h =
-    ⊎-elim (λ s. ap t s ∙ both (all t n) (t n) e .1) (λ l. all-at t n i (both (all t n) (t n) e .0) l) (eq-or-lt-of-le (le-of-suc-le-suc h))
 
 -- question 8 of an axis, at one of its pairs
 pub answered-at : (s : Sight) (h right down : ℕ) {x y : ℕ} → Within (s .width) h right down x y → allAnswered (axis right down) h s ≡ true
@@ -36,7 +28,7 @@ answered-at s h right down {x} {y} k e =
     let l : y * (s .width - right) + x < (h - down) * (s .width - right) = omega (arith, number-below c r, mul-comm (h - down) (s .width - right)) in
     let walk : Walked (s .width - right) (y * (s .width - right) + x) x y = record { number = refl; column = λ p. c } in
     sym (ap (answered s) (walked-edge (axis right down) (s .width) h walk l))
-    ∙ all-at (λ i. answered s (edgeAt (axis right down) (s .width) i)) ((h - down) * (s .width - right)) (y * (s .width - right) + x) e l
+    ∙ all-at (λ i. answered s (edgeAt (axis right down) (s .width) i)) ((h - down) * (s .width - right)) e (y * (s .width - right) + x) l
 
 -- ---- a walk by columns is a walk by rows of the picture on its side
 

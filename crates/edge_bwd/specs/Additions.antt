@@ -7,14 +7,14 @@ use Rattle.geometry.specs.Arith.{floats}
 use Rattle.geometry.specs.Vector.{Vec3, Weights, Triangle}
 use Rattle.geometry.specs.Leaf.{entries}
 use Rattle.slopes.specs.Formula.{jacobian, multMat3}
-use Rattle.meshes.specs.Mesh.{Face}
+use Rattle.meshes.specs.Mesh.{Face, cornersAt}
 use Rattle.meshes.specs.Sums.{Addition, addition}
 use Rattle.pixels.specs.Edge.{Axis, hedge, vedge, Edge, edgeFrom, rows, edgeCount}
 use Rattle.edges.specs.Inside.{projectFace}
 use Rattle.edges.specs.Types.{Sight, firstOf, secondOf}
 use Rattle.edges.specs.Gradient.{Signal, dldr}
 use Rattle.tris.specs.Weights.{worldIn}
-use Rattle.tris.specs.Tri.{cornersAt, pointOn}
+use Rattle.tris.specs.Tri.{pointOn}
 use Rattle.edge_bwd.specs.Shares.{Share, sharesAt}
 
 -- b times g to the three coordinates of vertex v

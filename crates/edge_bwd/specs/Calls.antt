@@ -1,17 +1,16 @@
 -- The whole outcome of `bwd`.
 use Prim.Native.Nat.{ℕ, _*_, _/_}
-use mathlib.Core.Bool.{Bool, true, _&&_, cond}
+use mathlib.Core.Bool.{Bool, true, _&&_}
 use mathlib.Core.List.{List, [], _∷_}
-use lib.Dec.{eqb}
 use lib.ListN.{length}
 use lib.Ieee.{Float}
-use Rattle.questions.specs.Questions.{Question, ask, firstNo, sizes, channels, groups, exact, allBelow, namesFaces}
+use Rattle.questions.specs.Questions.{Question, ask, firstNo, unlessRefused, sizes, channels, groups, exact, allBelow, namesFaces}
 use Rattle.meshes.specs.Sums.{summed}
 use Rattle.pixels.specs.Edge.{Axis, hedge, vedge, Edge, edgeCount, edgeAt}
 use Rattle.edges.specs.Inside.{projectFace, present}
 use Rattle.edges.specs.Types.{Sight}
 use Rattle.edges.specs.Gradient.{Signal}
-use Rattle.edges.specs.Calls.{all, allAnswered}
+use Rattle.edges.specs.Calls.{all, bothAnswered}
 use Rattle.tris.specs.Weights.{worldIn}
 use Rattle.edge_bwd.specs.Shares.{Share, sharesAt}
 use Rattle.edge_bwd.specs.Additions.{passAdditions}
@@ -42,7 +41,7 @@ exactBwd w h map v xyz dxyz =
 
 -- 8, and 9 after it, of both axes
 abbrev pub ofPairs : ℕ → Sight → List Question
-ofPairs h s = ask 8 (allAnswered hedge h s && allAnswered vedge h s) ∷ ask 9 (allUnwraps hedge h s && allUnwraps vedge h s) ∷ []
+ofPairs h s = ask 8 (bothAnswered h s) ∷ ask 9 (allUnwraps hedge h s && allUnwraps vedge h s) ∷ []
 
 -- the questions, of the face list `tri2vtx`, the map `pix2tri`, what the pass sees, and the accumulator
 unfoldable pub bwdCode : List ℕ → List ℕ → ℕ → Sight → Signal → List Float → ℕ
@@ -65,7 +64,7 @@ outcome code dxyz = record { code = code; sums = dxyz }
 
 -- a refused call leaves it as it was
 unfoldable pub answer : ℕ → List Float → List Float → Outcome
-answer code before after = outcome code (cond (eqb code 0) after before)
+answer code before after = outcome code (unlessRefused code before after)
 
 unfoldable pub edgeBwd : List ℕ → List ℕ → ℕ → Sight → Signal → List Float → Outcome
 edgeBwd tri map h s v dxyz = answer (bwdCode tri map h s v dxyz) dxyz (summed dxyz (passAdditions h s v))

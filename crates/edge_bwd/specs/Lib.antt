@@ -3,5 +3,3 @@ pub mod Shares
 pub mod Additions
 pub mod Calls
 pub mod Steps
--- proved of the definitions above
-pub mod Laws

@@ -1,9 +1,8 @@
 // Edges: the public call `bwd`.
 
 ghost use mathlib.Core.Path.{_≡_};
-ghost use Prim.Native.Nat.{_<_};
 ghost use Rattle.questions.specs.Questions.{firstNo};
-ghost use Rattle.questions.specs.Laws.{Sized};
+ghost use Rattle.questions.specs.Laws.{Sized, Channels};
 ghost use Rattle.meshes.specs.View.{viewOf};
 ghost use Rattle.edges.specs.Types.{sight};
 ghost use Rattle.edges.specs.Gradient.{signal};
@@ -25,7 +24,7 @@ fn lengths_ok(
     dldw_pix2val: &[f32],
 ) -> bool
     requires { ⌜ Sized 1 «img_w» «img_h» ⌝ }
-    requires { ⌜ «num_vdim» < 17 ⌝ }
+    requires { ⌜ Channels «num_vdim» ⌝ }
     ensures { λ r. ⌜ r ≡ exactBwd «img_w» «img_h» (now («pix2tri» .entry)) (signal (now («pix2val» .entry)) (now («dldw_pix2val» .entry)) «num_vdim»)
         (now («vtx2xyz» .entry)) (now («dldw_vtx2xyz» .entry)) ⌝ }
 {

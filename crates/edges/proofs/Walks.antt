@@ -1,7 +1,7 @@
 -- The loops over an axis's pairs: what holds before turn i.
-use Prim.Native.Nat.{ℕ, zero, suc, _+_, _-_, _*_, _<_, _≤_}
+use Prim.Native.Nat.{ℕ, zero, suc, _+_, _<_, _≤_}
 use mathlib.Core.Path.{_≡_, refl, sym, _∙_, ap, ap₂}
-use mathlib.Core.Logic.{_⊎_, ⊎-elim}
+use mathlib.Core.Logic.{⊎-elim}
 use mathlib.Core.Bool.{Bool, true, false, _&&_, and-false}
 use mathlib.Core.List.{List}
 use native.Mathlib.Nat.{not-suc-le-zero, le-of-suc-le-suc, eq-or-lt-of-le}
@@ -12,7 +12,7 @@ use lib.ListN.{length, set, length-set}
 use Rattle.layers.specs.Layer.{tabulate}
 use Rattle.layers.specs.Laws.Pixels.{stored, stored-none, stored-more, stored-all}
 use Rattle.pixels.specs.Laws.{Walked, walked-none, walked-more, Follows}
-use Rattle.edges.specs.Calls.{Sheet, sheet, all}
+use Rattle.edges.specs.Calls.{sheet, all}
 
 -- ---- a question of every pair
 

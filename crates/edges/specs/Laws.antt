@@ -1,18 +1,19 @@
 -- Laws of the edges' definitions: what a sound mesh and map have at a face and at an entry.
-use Prim.Native.Nat.{ℕ, zero, suc, _+_, _-_, _*_, _/_, _%_, _<_, _≤_}
+use Prim.Native.Nat.{ℕ, zero, suc, _+_, _-_, _*_, _/_, _<_}
 use mathlib.Core.Path.{_≡_, refl, sym, _∙_, ap}
 use mathlib.Core.Logic.{⊎-elim}
-use mathlib.Core.Bool.{Bool, true, false, _&&_, _||_, or-true, cond, false≢true}
+use mathlib.Core.Bool.{Bool, true, false, _&&_, or-true, cond}
 use mathlib.Core.Option.{Option, none, some}
 use mathlib.Core.List.{List, [], _∷_}
-use native.Mathlib.Nat.{not-suc-le-zero, le-of-suc-le-suc, div-add-mod, eq-or-lt-of-le}
+use native.Mathlib.Nat.{not-suc-le-zero, le-of-suc-le-suc, eq-or-lt-of-le}
 use native.Mathlib.Omega.{arith}
-use borrow.Author.Tests.{ltb-true, leb-true, eqb-true, eqb-false, ne-eqb}
-use lib.Dec.{leb, ltb, eqb}
+use borrow.Author.Tests.{eqb-false}
+use lib.Dec.{ltb, eqb}
 use lib.Ieee.{Float}
 use lib.ListN.{length, getD}
-use Rattle.questions.specs.Questions.{every, sizes, channels, groups, exact, allBelow, namesFace, namesFaces, empty, mostChannels}
-use Rattle.questions.specs.Laws.{both, sized, exactly, accepted}
+use Rattle.questions.specs.Questions.{every, exact, allBelow, namesFace, namesFaces, empty}
+use Rattle.questions.specs.Laws.{Sized, Grouped, whole, both, exactly, accepted, every-at, below-at, face-below}
+use Rattle.questions.specs.Laws.Opening.{Opened, opened}
 use Rattle.geometry.specs.Leaf.{project}
 use Rattle.meshes.specs.Mesh.{vertexAt, faceAt}
 use Rattle.meshes.specs.View.{entryAt, named, viewOf}
@@ -23,29 +24,14 @@ use Rattle.edges.specs.Inside.{together, projectFace, present, projects}
 use Rattle.edges.specs.Types.{Sight, sight, firstOf, secondOf, equalEntries, answered}
 use Rattle.edges.specs.Gradient.{Signal}
 use Rattle.edges.specs.Calls.{Sheet, exactSheet, exactAll, edgeCode, all, allAnswered}
-use Rattle.edges.specs.Steps.{SoundMesh, SoundMap, SoundSignal, Within, Ready, allProject}
-
-pub every-at : (test : ℕ → Bool) (xs : List ℕ) → every test xs ≡ true → (i : ℕ) → i < length xs → test (getD xs i 0) ≡ true
-unfolding every
-every-at test [] e i h = absurd (not-suc-le-zero h)
-every-at test (x ∷ xs) e zero h = both (test x) _ e .0
-every-at test (x ∷ xs) e (suc i) h = every-at test xs (both (test x) _ e .1) i (le-of-suc-le-suc h)
+use Rattle.edges.specs.Steps.{SoundMesh, SoundMap, Within, Ready, allProject}
 
 -- a vertex that a face names is there
 pub corner-there : {tri : List ℕ} {xyz : List Float} → SoundMesh tri xyz → (j : ℕ) → j < length tri → 3 * getD tri j 0 + 2 < length xyz
 corner-there {tri} {xyz} s j h =
     let e = s .vertices in
-    let l : getD tri j 0 < length xyz / 3 = ltb-true _ _ (every-at (λ x. ltb x (length xyz / 3)) tri (s .named) j h) in
+    let l = below-at (length xyz / 3) tri (s .named) j h in
     omega arith
-
--- an entry that is not empty names a face that is there
-pub entry-there : (n x : ℕ) → namesFace n x ≡ true → (x ≡ empty → ⊥) → x < n
-unfolding namesFace
-entry-there n x e h = ltb-true x n (go (ltb x n) (rw (ne-eqb x empty h) at e))
-  where
-    go : (b : Bool) → b || false ≡ true → b ≡ true
-    go true e = refl
-    go false e = absurd (false≢true e)
 
 -- each entry of the map names a face or none
 pub entry-named : {tri map : List ℕ} {xyz : List Float} {w h : ℕ} → SoundMap tri xyz map w h → (p : ℕ) → p < w * h → namesFace (length tri / 3) (getD map p 0) ≡ true
@@ -59,21 +45,27 @@ entry-shown {tri} {map} {xyz} {w} {h} {p} {n} s k = ap (entryAt map) (sym (k .0)
 pub within-at : {i x y : ℕ} (w h right down : ℕ) → Walked (w - right) i x y → i < (h - down) * (w - right) → Within w h right down x y
 within-at w h right down k l = record { column = omega (arith, in-row (h - down) k l); row = omega (arith, in-column (h - down) k l) }
 
--- whole groups of n numbers
-whole : (of n : ℕ) → groups of n ≡ true → of * (n / of) ≡ n
-unfolding groups
-whole of n e = let z : n % of ≡ 0 = eqb-true _ _ (both (eqb (n % of) 0) _ e .0) in omega (arith, div-add-mod n of)
+-- questions 1, 3, 4, 6 and 7 of the mesh and its map, answered yes
+pub sound : {tri map : List ℕ} {xyz : List Float} {w h : ℕ} → Sized 1 w h → Grouped 3 (length tri) → Grouped 3 (length xyz) → length map ≡ w * h
+    → allBelow (length xyz / 3) tri ≡ true → namesFaces (length tri / 3) map ≡ true → SoundMap tri xyz map w h
+sound {tri} {map} {xyz} q1 q3 q3' q4 q6 q7 =
+    record {
+      mesh = record { faces = whole 3 (length tri) q3; vertices = whole 3 (length xyz) q3'; named = q6 };
+      size = q1;
+      whole = q4;
+      named = q7;
+    }
 
-pub few : (n : ℕ) → channels n ≡ true → n < 17
-unfolding channels
-few n e = let l : n ≤ mostChannels = leb-true _ _ (both (leb 1 n) _ e .1) in omega arith
+-- question 4 begins with the map's length
+pub whole-map : (w h : ℕ) (map : List ℕ) (v : Signal) (hs vs : Sheet) → exactAll w h map v hs vs ≡ true → length map ≡ w * h
+unfolding exactAll
+whole-map w h map v hs vs e = exactly _ _ (both (exact (w * h) (length map)) _ e .0)
 
 -- the first seven questions, answered yes
-pub ready : (tri map : List ℕ) (xyz : List Float) (w h : ℕ) (v : Signal) (hs vs : Sheet)
-    → sizes 1 w h ≡ true → channels (v .channels) ≡ true → groups 3 (length tri) ≡ true → groups 3 (length xyz) ≡ true → exactAll w h map v hs vs ≡ true
-    → allBelow (length xyz / 3) tri ≡ true → namesFaces (length tri / 3) map ≡ true → Ready tri map xyz w h v hs vs
+ready : (tri map : List ℕ) (xyz : List Float) (w h : ℕ) (v : Signal) (hs vs : Sheet) → Opened w h (v .channels) (length tri) (length xyz)
+    → exactAll w h map v hs vs ≡ true → allBelow (length xyz / 3) tri ≡ true → namesFaces (length tri / 3) map ≡ true → Ready tri map xyz w h v hs vs
 unfolding exactAll
-ready tri map xyz w h v hs vs q1 q2 q3 q3' q4 q6 q7 =
+ready tri map xyz w h v hs vs o q4 q6 q7 =
     let a = both (exact (w * h) (length map)) _ q4 in
     let b = both (exact (w * h * v .channels) (length (v .values))) _ (a .1) in
     let c = both (exact (w * h * v .channels) (length (v .gradients))) _ (b .1) in
@@ -81,19 +73,8 @@ ready tri map xyz w h v hs vs q1 q2 q3 q3' q4 q6 q7 =
     let e = both (exact (edgeCount hedge w h) (length (hs .types))) _ (d .0) in
     let f = both (exact (edgeCount vedge w h) (length (vs .types))) _ (d .1) in
     record {
-      image =
-          record {
-            mesh = record { faces = whole 3 (length tri) q3; vertices = whole 3 (length xyz) q3'; named = q6 };
-            size = sized 1 w h q1;
-            whole = exactly _ _ (a .0);
-            named = q7;
-          };
-      signals =
-          record {
-            few = few _ q2;
-            values = exactly _ _ (b .0);
-            gradients = exactly _ _ (c .0);
-          };
+      image = sound (o .size) (o .faces) (o .vertices) (exactly _ _ (a .0)) q6 q7;
+      signals = record { few = o .few; values = exactly _ _ (b .0); gradients = exactly _ _ (c .0) };
       htypes = exactly _ _ (e .0);
       hdldrs = exactly _ _ (e .1);
       vtypes = exactly _ _ (f .0);
@@ -103,23 +84,21 @@ ready tri map xyz w h v hs vs q1 q2 q3 q3' q4 q6 q7 =
 pub edge-accepted : (tri map : List ℕ) (h : ℕ) (s : Sight) (v : Signal) (hs vs : Sheet) → edgeCode tri map h s v hs vs ≡ 0 → Ready tri map (s .vertices) (s .width) h v hs vs
 unfolding edgeCode
 edge-accepted tri map h s v hs vs e =
-    let a = accepted 0 (sizes 1 (s .width) h) _ e in
-    let b = accepted 1 (channels (v .channels)) _ (a .1) in
-    let c = accepted 2 (groups 3 (length tri) && groups 3 (length (s .vertices))) _ (b .1) in
-    let d = accepted 3 (exactAll (s .width) h map v hs vs) _ (c .1) in
-    let f = accepted 5 (allBelow (length (s .vertices) / 3) tri) _ (d .1) in
-    let g = accepted 6 (namesFaces (length tri / 3) map) _ (f .1) in
-    let k = both (groups 3 (length tri)) _ (c .0) in
-    ready tri map (s .vertices) (s .width) h v hs vs (a .0) (b .0) (k .0) (k .1) (d .0) (f .0) (g .0)
+    let o = opened (s .width) h (v .channels) (length tri) (length (s .vertices)) _ e in
+    let four = accepted 3 (exactAll (s .width) h map v hs vs) _ (o .1) in
+    let six = accepted 5 (allBelow (length (s .vertices) / 3) tri) _ (four .1) in
+    let seven = accepted 6 (namesFaces (length tri / 3) map) _ (six .1) in
+    ready tri map (s .vertices) (s .width) h v hs vs (o .0) (four .0) (six .0) (seven .0)
 
 -- ---- where every vertex has a projection, question 8 is answered yes at every pair
 
-all-at : (t : ℕ → Bool) (n i : ℕ) → i < n → all t n ≡ true → t i ≡ true
+-- what the first n all pass, number i passes
+pub all-at : (t : ℕ → Bool) (n : ℕ) → all t n ≡ true → (i : ℕ) → i < n → t i ≡ true
 unfolding all
-all-at t zero i h e = absurd (not-suc-le-zero h)
-all-at t (suc n) i h e =
+all-at t zero e i h = absurd (not-suc-le-zero h)
+all-at t (suc n) e i h =
     let b = both (all t n) _ e in
-    ⊎-elim (λ s. ap t s ∙ b .1) (λ l. all-at t n i l (b .0)) (eq-or-lt-of-le (le-of-suc-le-suc h))
+    ⊎-elim (λ s. ap t s ∙ b .1) (λ l. all-at t n (b .0) i l) (eq-or-lt-of-le (le-of-suc-le-suc h))
 
 all-yes : (t : ℕ → Bool) (n : ℕ) → ((i : ℕ) → t i ≡ true) → all t n ≡ true
 unfolding all
@@ -147,8 +126,7 @@ module _ {tri map : List ℕ} (m : List Float) {xyz : List Float} {w h : ℕ} (s
   corner-projects : (j : ℕ) → j < length tri → present (project m (vertexAt xyz (getD tri j 0))) ≡ true
   unfolding allProject
   corner-projects j l =
-      all-at (λ v. present (project m (vertexAt xyz v))) (length xyz / 3) (getD tri j 0)
-      (ltb-true _ _ (every-at (λ x. ltb x (length xyz / 3)) tri (s .mesh .named) j l)) yes
+      all-at (λ v. present (project m (vertexAt xyz v))) (length xyz / 3) yes (getD tri j 0) (below-at (length xyz / 3) tri (s .mesh .named) j l)
 
   entry-projects : (x : ℕ) → namesFace (length tri / 3) x ≡ true → projects m xyz (named tri x) ≡ true
   unfolding projects named projectFace faceAt
@@ -157,7 +135,7 @@ module _ {tri map : List ℕ} (m : List Float) {xyz : List Float} {w h : ℕ} (s
       go : (b : Bool) → eqb x empty ≡ b → projects m xyz (cond b none (some (faceAt tri x))) ≡ true
       go true k = refl
       go false k =
-          let there = entry-there (length tri / 3) x e (eqb-false x empty k) in
+          let there = face-below (length tri / 3) x e (eqb-false x empty k) in
           let long = s .mesh .faces in
           together-present _ _ _ (corner-projects (3 * x) (omega arith)) (corner-projects (3 * x + 1) (omega arith)) (corner-projects (3 * x + 2) (omega arith))
 

@@ -6,7 +6,7 @@ use mathlib.Core.List.{List}
 use lib.ListN.{length}
 use lib.Ieee.{Float}
 use Rattle.questions.specs.Questions.{allBelow, namesFaces}
-use Rattle.questions.specs.Laws.{Sized}
+use Rattle.questions.specs.Laws.{Sized, Channels}
 use Rattle.pixels.specs.Edge.{hedge, vedge, edgeCount}
 use Rattle.geometry.specs.Leaf.{project}
 use Rattle.meshes.specs.Mesh.{vertexAt}
@@ -29,7 +29,7 @@ pub record SoundMap (tri : List ℕ) (xyz : List Float) (map : List ℕ) (w h : 
 
 -- values and gradients of n pixels
 pub record SoundSignal (v : Signal) (n : ℕ) : Type 0 where
-  pub few : v .channels < 17
+  pub few : Channels (v .channels)
   pub values : length (v .values) ≡ n * v .channels
   pub gradients : length (v .gradients) ≡ n * v .channels
 

@@ -6,7 +6,7 @@ ghost use Prim.Native.Nat.{_+_, _*_, _/_, _<_};
 ghost use lib.ListN.{length};
 ghost use Rattle.questions.specs.Questions.{namesFace};
 ghost use Rattle.geometry.specs.Vector.{weights};
-ghost use Rattle.geometry.specs.Answer.{point2, point3, weightsOf};
+ghost use Rattle.geometry.specs.Answer.{point2, weightsOf};
 ghost use Rattle.geometry.specs.Leaf.{project};
 ghost use Rattle.meshes.specs.Mesh.{faceAt, vertexAt};
 ghost use Rattle.meshes.specs.View.{named};

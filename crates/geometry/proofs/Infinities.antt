@@ -1,6 +1,6 @@
 -- Finite, by two comparisons.
 use mathlib.Core.Path.{_≡_, refl, sym}
-use mathlib.Core.Bool.{Bool, true, false}
+use mathlib.Core.Bool.{true, false}
 use lib.Ieee.{Float, nan, inf, fin, lt}
 use Rattle.geometry.specs.Leaf.{finite}
 

@@ -1,8 +1,6 @@
 -- What the code's structs and enums stand for: 01's values for each of their cases.
 use mathlib.Core.Option.{Option, none, some}
-use mathlib.Core.List.{List}
-use lib.ListN.{getD}
-use lib.Ieee.{Float, nan}
+use lib.Ieee.{Float}
 use Rattle.geometry.specs.Vector
 use Rattle.geometry.specs.Vector.{Weights, weights, projected, vec2, vec3}
 use Rattle.geometry.specs.declared.Vec2 as code2

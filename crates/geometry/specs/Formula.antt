@@ -1,5 +1,5 @@
 -- The formulas of 01's leaves, over any arithmetic. Sums run left to right.
-use Prim.Native.Nat.{ℕ, _+_}
+use Prim.Native.Nat.{ℕ, zero, suc, _+_}
 use Rattle.geometry.specs.Arith.{Arith}
 use Rattle.geometry.specs.Vector.{Vec2, Vec3, vec3, Weights, weights, Projected, projected}
 
@@ -10,6 +10,11 @@ module _ {A : Type 0} (R : Arith A) where
   infixl 6 _⊖_
   infixl 7 _⊗_
   infixl 7 _⊘_
+  -- a sum of n terms, in order, from +0
+  unfoldable pub sumOf : (ℕ → A) → ℕ → A
+  sumOf term zero = R .zero
+  sumOf term (suc n) = sumOf term n ⊕ term n
+
   -- cross2(a,b,c) = (bx−ax)(cy−ay) − (by−ay)(cx−ax)
   unfoldable pub cross2 : Vec2 A → Vec2 A → Vec2 A → A
   cross2 a b c = (b .x ⊖ a .x) ⊗ (c .y ⊖ a .y) ⊖ (b .y ⊖ a .y) ⊗ (c .x ⊖ a .x)

@@ -1,5 +1,4 @@
 -- Points of the plane and of space, the three weights of a corner each, and a projected point with the divisor that made it.
-use lib.Ieee.{Float}
 
 pub record Vec2 (A : Type 0) : Type 0 where
   pub x : A

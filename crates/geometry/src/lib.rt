@@ -6,7 +6,7 @@ ghost use Rattle.geometry.specs.Arith.{floats};
 ghost use Rattle.geometry.specs.Vector.{weights};
 ghost use Rattle.geometry.specs.Formula as formula;
 ghost use Rattle.geometry.specs.Leaf as leaf;
-ghost use Rattle.geometry.specs.Answer.{point2, point3, projectedOf, weightsOf, projectionOf};
+ghost use Rattle.geometry.specs.Answer.{point2, point3, weightsOf, projectionOf};
 
 pub struct Vec2 {
     pub x: f32,

@@ -6,7 +6,7 @@ use lib.Ieee.{Float, binary32, ofBits, neg, div}
 use lib.ListN.{length}
 use Rattle.questions.specs.Questions.{empty}
 use Rattle.layers.specs.Cell.{pick, lowest}
-use Rattle.layers.specs.Layer.{Layer, layer, at, tabulate, pixelwise, Outcome, outcome, answer}
+use Rattle.layers.specs.Layer.{Layer, at, tabulate, pixelwise, outcome}
 use Rattle.layers.specs.Calls.{clearCode, clearing, joinCode, joining}
 use Rattle.layers.specs.Laws.Answers.{refusal, acceptance, clear-accepted}
 

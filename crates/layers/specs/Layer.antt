@@ -1,10 +1,9 @@
 -- A layer as a call is lent it, and what a call that writes one leaves.
 use Prim.Native.Nat.{ℕ, zero, suc}
-use mathlib.Core.Bool.{cond}
 use mathlib.Core.List.{List, [], _∷_}
-use lib.Dec.{eqb}
 use lib.Ieee.{Float, nan}
 use lib.ListN.{getD}
+use Rattle.questions.specs.Questions.{unlessRefused}
 use Rattle.layers.specs.Cell.{Cell, cell}
 
 -- the map `pix2tri` and the depths `pix2depth`, a number each for every pixel
@@ -38,4 +37,4 @@ outcome code ns ds = record { code = code; left = layer ns ds }
 
 -- a refused call leaves the layer as it was
 abbrev pub answer : ℕ → Layer → Layer → Outcome
-answer code before after = record { code = code; left = cond (eqb code 0) after before }
+answer code before after = record { code = code; left = unlessRefused code before after }

@@ -3,7 +3,7 @@ use Prim.Native.Nat.{ℕ, _+_, _*_}
 use mathlib.Core.List.{List, [], _∷_}
 use lib.ListN.{getD}
 use lib.Ieee.{Float, nan}
-use Rattle.geometry.specs.Vector.{Vec3, vec3}
+use Rattle.geometry.specs.Vector.{Vec3, vec3, Triangle, triangle}
 
 -- three vertex numbers
 pub record Face : Type 0 where
@@ -28,3 +28,7 @@ facesOf (a ∷ b ∷ c ∷ tri) = face a b c ∷ facesOf tri
 -- vertex number v
 unfoldable pub vertexAt : List Float → ℕ → Vec3 Float
 vertexAt xyz v = vec3 (getD xyz (3 * v) nan) (getD xyz (3 * v + 1) nan) (getD xyz (3 * v + 2) nan)
+
+-- the corners of a face
+unfoldable pub cornersAt : List Float → Face → Triangle (Vec3 Float)
+cornersAt xyz f = triangle (vertexAt xyz (f .v0)) (vertexAt xyz (f .v1)) (vertexAt xyz (f .v2))

@@ -1,9 +1,9 @@
 -- Laws of the walk over the edges of an axis, row by row.
 use Prim.Native.Nat.{ℕ, zero, suc, _+_, _*_, _-_, _/_, _%_, _<_, _≤_}
-use mathlib.Core.Path.{_≡_, refl, sym, _∙_, ap, ap₂}
-use native.Mathlib.Nat.{div-eq-of-lt-le, div-add-mod', div-lt-iff-lt-mul, mul-zero, mul-comm, mul-le-mul, mul-le-mul-right}
+use mathlib.Core.Path.{_≡_, _∙_, ap, ap₂}
+use native.Mathlib.Nat.{add-zero, div-eq-of-lt, div-eq-of-lt-le, div-add-mod', div-lt-iff-lt-mul, mod-eq-of-lt, mul-add-div-right, mul-add-mod-self-right, mul-zero, mul-comm, mul-le-mul, mul-le-mul-right}
 use native.Mathlib.Omega.{arith}
-use Rattle.pixels.specs.Edge.{Axis, Edge, edgeFrom, edgeAt, perRow, rows, edgeCount}
+use Rattle.pixels.specs.Edge.{Axis, edgeFrom, edgeAt, perRow, rows, edgeCount}
 
 -- (x', y') comes after (x, y), in rows of n
 pub record Follows (n x y x' y' : ℕ) : Type 0 where
@@ -43,6 +43,13 @@ module _ {n i x y : ℕ} (m : ℕ) (k : Walked n i x y) (h : i < m * n) where
 pub walked-edge : {i x y : ℕ} (a : Axis) (w h : ℕ) → Walked (perRow a w) i x y → i < edgeCount a w h → edgeAt a w i ≡ edgeFrom a x y
 unfolding edgeAt
 walked-edge a w h k l = ap₂ (edgeFrom a) (column-of (rows a h) k l) (row-of (rows a h) k l)
+
+-- column and row of a number in rows of n
+pub row-at : (n y x : ℕ) → x < n → (y * n + x) / n ≡ y
+row-at n y x h = mul-add-div-right {m = n} (omega arith) y x ∙ ap (λ (k : ℕ). y + k) (div-eq-of-lt h) ∙ add-zero y
+
+pub column-at : (n y x : ℕ) → x < n → (y * n + x) % n ≡ x
+column-at n y x h = mul-add-mod-self-right y n x ∙ mod-eq-of-lt h
 
 -- the number of a pixel of the image, and a bound on how many there are
 pub number-below : {w h x y : ℕ} → x < w → y < h → y * w + x < w * h

@@ -1,5 +1,5 @@
 -- 01, "The questions, in order". A call lists the questions it asks, in 01's order; one that it has no matter for is left out.
-use Prim.Native.Nat.{ℕ, _+_, _*_, _/_, _%_}
+use Prim.Native.Nat.{ℕ, _+_, _/_, _%_}
 use mathlib.Core.Bool.{Bool, true, _&&_, _||_, cond}
 use mathlib.Core.List.{List, [], _∷_}
 use lib.Dec.{leb, ltb, eqb}
@@ -17,6 +17,10 @@ ask n a = record { number = n; answer = a }
 unfoldable pub firstNo : List Question → ℕ
 firstNo [] = 0
 firstNo (q ∷ qs) = cond (q .answer) (firstNo qs) (q .number)
+
+-- ".. before any write": what a call was lent is afterwards as it was, if the call was refused
+abbrev pub unlessRefused : {A : Type 0} → ℕ → A → A → A
+unlessRefused code before after = cond (eqb code 0) after before
 
 -- the bounds of 01
 abbrev pub mostSize : ℕ
@@ -67,3 +71,7 @@ namesFace n x = ltb x n || eqb x empty
 
 abbrev pub namesFaces : ℕ → List ℕ → Bool
 namesFaces n = every (namesFace n)
+
+-- 1 to 3, of a pass over an image of a mesh with so many numbers in its face slice and its vertex slice
+abbrev pub opening : ℕ → ℕ → ℕ → ℕ → ℕ → List Question
+opening w h c tri xyz = ask 1 (sizes 1 w h) ∷ ask 2 (channels c) ∷ ask 3 (groups 3 tri && groups 3 xyz) ∷ []

@@ -1,28 +1,25 @@
 -- Boxes of pixels: empty, split in two, of one pixel, and as the scan of a piece.
 use Prim.Native.Nat.{ℕ, _+_, _*_, _/_, _%_, _≤_, _<_}
-use mathlib.Core.Path.{_≡_, refl, sym, ap, ap₂, _∙_}
+use mathlib.Core.Path.{_≡_, refl, sym, ap₂, _∙_}
 use mathlib.Core.Bool.{Bool, true, false, _&&_, cond}
 use mathlib.Core.Logic.{_⊎_, inl, inr}
 use mathlib.Core.List.{List, [], _++_, append-nil}
-use native.Mathlib.Nat.{div-add-mod', div-lt-iff-lt-mul, mod-lt, mul-add-div-right, mul-add-mod-self-right, mod-eq-of-lt, div-eq-of-lt, add-zero, mul-le-mul-right, mul-comm}
-use native.Mathlib.Numerals.{add-one-le}
+use native.Mathlib.Nat.{div-add-mod', div-lt-iff-lt-mul, mod-lt}
 use native.Mathlib.Omega.{arith}
 use borrow.Author.Tests.{lt-ltb, le-ltb, le-leb, lt-leb, eqb-true, eqb-false}
 use lib.Dec.{leb, ltb, eqb}
 use lib.Ieee.{Float}
 use Rattle.geometry.specs.Vector.{Vec3, Triangle}
-use Rattle.layers.specs.Cell.{Cell}
 use Rattle.layers.specs.Offers.{numbered}
 use Rattle.pixels.specs.Pixel.{centre}
+use Rattle.pixels.specs.Laws.{row-at, column-at}
 use Rattle.rules.specs.Scan.{centreAt, depthAt, candidate, scans, spans, between, least, greatest}
+use Rattle.geometry.specs.Leaf.{finite}
+use Rattle.rules.specs.Laws.Finite.{allFinite, columns-finite, rows-finite}
 use Rattle.raster.specs.Reach.{FirstReached}
 use Rattle.raster.specs.Box.{inRange, boxBrings, boxCells}
 use Rattle.raster.specs.Piece.{pieceCells}
 use Rattle.raster.proofs.Reaching.{below-or, range-is}
-
--- a pixel's number is below the count of pixels
-pub pixel-in : (w h ix iy : ℕ) → ix < w → iy < h → iy * w + ix < w * h
-pixel-in w h ix iy k l = omega (arith, mul-le-mul-right w (add-one-le l), mul-comm w h)
 
 -- ---- ranges
 
@@ -98,15 +95,9 @@ module _ (s : Triangle (Vec3 Float)) (k w : ℕ) where
 
   -- ---- one pixel
 
-  row-at : (ix iy : ℕ) → ix < w → (iy * w + ix) / w ≡ iy
-  row-at ix iy h = mul-add-div-right (omega arith) iy ix ∙ ap (λ (d : ℕ). iy + d) (div-eq-of-lt h) ∙ add-zero iy
-
-  column-at : (ix iy : ℕ) → ix < w → (iy * w + ix) % w ≡ ix
-  column-at ix iy h = mul-add-mod-self-right iy w ix ∙ mod-eq-of-lt h
-
   pub box-here : (ix iy : ℕ) → ix < w → boxCells s k w ix (ix + 1) iy (iy + 1) (iy * w + ix) ≡ numbered k (depthAt s (centreAt ix iy))
   unfolding boxCells boxBrings
-  box-here ix iy h = rw (row-at ix iy h, column-at ix iy h, range-one ix, range-one iy)
+  box-here ix iy h = rw (row-at w iy ix h, column-at w iy ix h, range-one ix, range-one iy)
 
   pub box-elsewhere : (ix iy p : ℕ) → (p ≡ iy * w + ix → ⊥) → boxCells s k w ix (ix + 1) iy (iy + 1) p ≡ []
   unfolding boxCells boxBrings numbered
@@ -146,24 +137,50 @@ module _ (s : Triangle (Vec3 Float)) (k w : ℕ) where
         ← (range-is _ _ h y0 y1 c d (p / w) (row-in h p l m)),
       )
 
-  -- no centre lies in the columns, or in the rows: nothing is scanned
-  pub no-columns : (h : ℕ) → ((i : ℕ) → i < w → between (least (s .p0 .x) (s .p1 .x) (s .p2 .x)) (greatest (s .p0 .x) (s .p1 .x) (s .p2 .x)) (centre i) ≡ false) → 0 < w → (p : ℕ) → p < w * h → pieceCells s k w p ≡ []
-  unfolding pieceCells candidate scans spans numbered
-  no-columns h e l p m = rw (e (p % w) (column-in p l))
+  -- no candidate anywhere: nothing is brought
+  pub nothing-brought : (h : ℕ) → ((ix iy : ℕ) → ix < w → iy < h → candidate s ix iy ≡ []) → 0 < w → (p : ℕ) → p < w * h → pieceCells s k w p ≡ []
+  unfolding pieceCells numbered
+  nothing-brought h e l p m = rw (e (p % w) (p / w) (column-in p l) (row-in h p l m))
 
-  pub no-rows : (h : ℕ) → ((i : ℕ) → i < h → between (least (s .p0 .y) (s .p1 .y) (s .p2 .y)) (greatest (s .p0 .y) (s .p1 .y) (s .p2 .y)) (centre i) ≡ false) → 0 < w → (p : ℕ) → p < w * h → pieceCells s k w p ≡ []
-  unfolding pieceCells candidate scans spans numbered
-  no-rows h e l p m = rw (e (p / w) (row-in h p l m)) (go (between (least (s .p0 .x) (s .p1 .x) (s .p2 .x)) (greatest (s .p0 .x) (s .p1 .x) (s .p2 .x)) (centre (p % w))))
+-- ---- pixels to which a piece brings nothing
+
+and-no : (t : Bool) → t && false ≡ false
+and-no true = refl
+and-no false = refl
+
+module _ (s : Triangle (Vec3 Float)) (ix iy : ℕ) where
+  -- the column's centre is not in the box, or the row's
+  pub columnless : between (least (s .p0 .x) (s .p1 .x) (s .p2 .x)) (greatest (s .p0 .x) (s .p1 .x) (s .p2 .x)) (centre ix) ≡ false → candidate s ix iy ≡ []
+  unfolding candidate scans spans
+  columnless e = rw e
+
+  pub rowless : between (least (s .p0 .y) (s .p1 .y) (s .p2 .y)) (greatest (s .p0 .y) (s .p1 .y) (s .p2 .y)) (centre iy) ≡ false → candidate s ix iy ≡ []
+  unfolding candidate scans spans
+  rowless e = rw (e, and-no)
+
+  -- the piece has no depth there
+  depthless : depthAt s (centreAt ix iy) ≡ [] → candidate s ix iy ≡ []
+  unfolding candidate
+  depthless e = rw e (go (scans s ix iy))
     where
-      go : (t : Bool) → numbered k (cond (t && false) (depthAt s (centreAt (p % w) (p / w))) []) ≡ []
+      go : (t : Bool) → cond {A = List Float} t [] [] ≡ []
       go true = refl
       go false = refl
 
-  -- no depth anywhere: nothing is brought
-  pub no-depth : ((ix iy : ℕ) → depthAt s (centreAt ix iy) ≡ []) → (p : ℕ) → pieceCells s k w p ≡ []
-  unfolding pieceCells candidate numbered
-  no-depth e p = rw (e (p % w) (p / w)) (go (scans s (p % w) (p / w)))
-    where
-      go : (t : Bool) → numbered k (cond t [] []) ≡ []
-      go true = refl
-      go false = refl
+  -- a column or a row is not finite
+  pub columns-lost : allFinite (s .p0 .x) (s .p1 .x) (s .p2 .x) ≡ false → candidate s ix iy ≡ []
+  columns-lost e = depthless (columns-finite s (centreAt ix iy) e)
+
+  pub rows-lost : allFinite (s .p0 .y) (s .p1 .y) (s .p2 .y) ≡ false → candidate s ix iy ≡ []
+  rows-lost e = depthless (rows-finite s (centreAt ix iy) e)
+
+-- one of three is not finite
+module _ (a b c : Float) where
+  pub first-lost : finite a ≡ false → allFinite a b c ≡ false
+  first-lost e = rw e
+
+  pub second-lost : finite b ≡ false → allFinite a b c ≡ false
+  second-lost e = rw (e, and-no)
+
+  pub third-lost : finite c ≡ false → allFinite a b c ≡ false
+  third-lost e = rw (e, and-no, and-no)

@@ -2,7 +2,10 @@
 pub mod Reaching
 pub mod Boxes
 pub mod Pixel
+pub mod Centres
+pub mod Lanes
 pub mod Turns
+pub mod Blocks
 pub mod Numbers
 pub mod Painting
 pub mod FaceList

@@ -12,8 +12,7 @@ use Rattle.layers.specs.Offers.{numbered}
 use Rattle.layers.specs.Layer.{Layer}
 use Rattle.layers.specs.Steps.{Spans}
 use Rattle.rules.specs.Piece.{Piece}
-use Rattle.pixels.specs.Pixel.{centre}
-use Rattle.rules.specs.Scan.{centreAt, depthAt, between, least, greatest, screened}
+use Rattle.rules.specs.Scan.{candidate, least, greatest, screened}
 use Rattle.rules.specs.Offers.{pieceBrings, piecesBring}
 use Rattle.rules.specs.Draw.{painted}
 use Rattle.rules.specs.Laws.Paint.{painted-none, painted-same, painted-append}
@@ -22,28 +21,38 @@ use Rattle.raster.specs.Box.{boxCells}
 use Rattle.raster.specs.Piece.{pieceCells}
 use Rattle.raster.specs.Face.{piecesCells}
 use Rattle.raster.proofs.Reaching.{range-is}
-use Rattle.raster.proofs.Boxes.{range-none, box-scans, no-columns, no-rows, no-depth}
+use Rattle.raster.proofs.Boxes.{range-none, box-scans, nothing-brought, columnless, rowless}
 
 -- ---- one piece
 
-module _ (s : Triangle (Vec3 Float)) (k w h : ℕ) (l : Layer) (whole : Spans l (w * h)) where
-  -- a piece that has a depth nowhere
-  pub blank : ((ix iy : ℕ) → depthAt s (centreAt ix iy) ≡ []) → l ≡ painted (pieceCells s k w) (w * h) l
-  blank e = sym (painted-none (w * h) l (pieceCells s k w) whole (λ p m. no-depth s k w e p))
+module _ (s : Triangle (Vec3 Float)) (k w h : ℕ) (l : Layer) (size : Sized 1 w h) (whole : Spans l (w * h)) where
+  -- a piece that brings no pixel anything
+  pub untouched : ((ix iy : ℕ) → ix < w → iy < h → candidate s ix iy ≡ []) → l ≡ painted (pieceCells s k w) (w * h) l
+  untouched e =
+      sym (painted-none (w * h) l (pieceCells s k w) whole (nothing-brought s k w h e (omega (arith, size .w-least))))
 
-module _ (s : Triangle (Vec3 Float)) (k w h : ℕ) (l : Layer) (size : Sized 1 w h) (whole : Spans l (w * h)) (low high : Float) where
-  -- no centre of a column, or of a row, in the box
-  pub off-columns : low ≡ least (s .p0 .x) (s .p1 .x) (s .p2 .x) → high ≡ greatest (s .p0 .x) (s .p1 .x) (s .p2 .x) → ((i : ℕ) → i < w → between low high (centre i) ≡ false) → l ≡ painted (pieceCells s k w) (w * h) l
-  off-columns e g f =
-      sym (painted-none (w * h) l (pieceCells s k w) whole (no-columns s k w h (λ i m. rw (← e, ← g) (f i m)) (omega (arith, size .w-least))))
+  -- a box of no columns, or of no rows
+  pub thin-columns :
+      (low high : Float) (a b : ℕ)
+      → low ≡ least (s .p0 .x) (s .p1 .x) (s .p2 .x)
+      → high ≡ greatest (s .p0 .x) (s .p1 .x) (s .p2 .x)
+      → FirstReached true low w a
+      → FirstReached false high w b
+      → b ≤ a
+      → l ≡ painted (pieceCells s k w) (w * h) l
+  thin-columns low high a b e g f t m =
+      untouched (λ ix iy i j. columnless s ix iy (rw (← e, ← g) (range-is low high w a b f t ix i ∙ range-none a b ix m)))
 
-  pub off-rows : low ≡ least (s .p0 .y) (s .p1 .y) (s .p2 .y) → high ≡ greatest (s .p0 .y) (s .p1 .y) (s .p2 .y) → ((i : ℕ) → i < h → between low high (centre i) ≡ false) → l ≡ painted (pieceCells s k w) (w * h) l
-  off-rows e g f =
-      sym (painted-none (w * h) l (pieceCells s k w) whole (no-rows s k w h (λ i m. rw (← e, ← g) (f i m)) (omega (arith, size .w-least))))
-
-  -- a range that holds none
-  pub thin : (n a b : ℕ) → FirstReached true low n a → FirstReached false high n b → b ≤ a → (i : ℕ) → i < n → between low high (centre i) ≡ false
-  thin n a b f g m i j = range-is low high n a b f g i j ∙ range-none a b i m
+  pub thin-rows :
+      (low high : Float) (a b : ℕ)
+      → low ≡ least (s .p0 .y) (s .p1 .y) (s .p2 .y)
+      → high ≡ greatest (s .p0 .y) (s .p1 .y) (s .p2 .y)
+      → FirstReached true low h a
+      → FirstReached false high h b
+      → b ≤ a
+      → l ≡ painted (pieceCells s k w) (w * h) l
+  thin-rows low high a b e g f t m =
+      untouched (λ ix iy i j. rowless s ix iy (rw (← e, ← g) (range-is low high h a b f t iy j ∙ range-none a b iy m)))
 
 -- the box that the ends span is the scan of the piece
 pub box-done :

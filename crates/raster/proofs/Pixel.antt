@@ -1,7 +1,7 @@
 -- One pixel of a layer: what a step writes there, and what a lane's depth brings.
 use Prim.Native.Nat.{ℕ, _+_, _*_, _<_}
 use mathlib.Core.Path.{_≡_, refl, sym, ap, ap₂, _∙_}
-use mathlib.Core.Bool.{Bool, true, false, cond}
+use mathlib.Core.Bool.{Bool, true, false, false≢true}
 use mathlib.Core.List.{List, [], _∷_}
 use mathlib.Core.Option.{Option, none, some}
 use native.Mathlib.Omega.{arith}
@@ -22,30 +22,36 @@ use Rattle.rules.specs.Draw.{painted}
 use Rattle.rules.specs.Laws.Paint.{at-painted, spans-painted}
 use Rattle.raster.specs.Answer.{orLowest}
 use Rattle.raster.specs.Box.{boxCells}
+use Rattle.raster.specs.Step.{stepped}
 use Rattle.raster.proofs.Boxes.{box-here, box-elsewhere}
 
 -- ---- what a test leaves written
 
-pub kept-step : (l : Layer) (p : ℕ) (c : Cell) → exceeds (at l p) c ≡ false → l ≡ written l p (pick (at l p) c)
-unfolding pick
-kept-step l p c e = rw (e, set-getD (l .pix2tri) p 0, set-getD (l .pix2depth) p nan)
+pub kept-step : (l : Layer) (p k : ℕ) (z : Float) → lt (at l p .depth) z ≡ false → l ≡ stepped l p k z
+unfolding stepped pick exceeds
+kept-step l p k z e = rw (e, set-getD (l .pix2tri) p 0, set-getD (l .pix2depth) p nan)
 
-pub taken-step : (l : Layer) (p : ℕ) (c : Cell) → exceeds (at l p) c ≡ true → written l p c ≡ written l p (pick (at l p) c)
-unfolding pick
-taken-step l p c e = rw e
+pub taken-step : (l : Layer) (p k : ℕ) (z : Float) → lt (at l p .depth) z ≡ true → written l p (cell z k) ≡ stepped l p k z
+unfolding stepped pick exceeds
+taken-step l p k z e = rw e
 
--- ---- −infinity is never greater
+-- ---- −infinity and NaN are never greater
 
-not-above-lowest : (d : Float) → lt d lowest ≡ false
+pub never-greater : (z : Float) → lt lowest z ≡ false → (d : Float) → lt d z ≡ false
 unfolding lt
-not-above-lowest nan = refl
-not-above-lowest (inf true) = refl
-not-above-lowest (inf false) = refl
-not-above-lowest (fin s m e) = refl
+never-greater nan e nan = refl
+never-greater nan e (inf s) = refl
+never-greater nan e (fin s m x) = refl
+never-greater (inf true) e nan = refl
+never-greater (inf true) e (inf true) = refl
+never-greater (inf true) e (inf false) = refl
+never-greater (inf true) e (fin s m x) = refl
+never-greater (inf false) e d = absurd (false≢true (sym e))
+never-greater (fin t n y) e d = absurd (false≢true (sym e))
 
 pick-lowest : (c : Cell) (k : ℕ) → pick c (cell lowest k) ≡ c
-unfolding pick exceeds
-pick-lowest c k = rw (not-above-lowest (c .depth))
+unfolding pick exceeds lt
+pick-lowest c k = rw (never-greater lowest refl (c .depth))
 
 -- a depth or none, as a lane gives it
 pub lane-kept : (c : Cell) (k : ℕ) (s : Triangle (Vec3 Float)) (b : Weights Float) (t : Bool) → dropped b ≡ t → pick c (cell (orLowest (kept s b)) k) ≡ offered c (numbered k (kept s b))
@@ -67,19 +73,21 @@ lane-step c k s q = lane-weighed c k s _
 at-written : (l : Layer) (p : ℕ) (c : Cell) → Reaches l p → at (written l p c) p ≡ c
 at-written l p c r = ap₂ cell (getD-set-same (l .pix2depth) p (c .depth) nan (r .depths)) (getD-set-same (l .pix2tri) p (c .number) 0 (r .numbers))
 
-at-other : (l : Layer) (p q : ℕ) (c : Cell) → (q ≡ p → ⊥) → at (written l p c) q ≡ at l q
+pub at-other : (l : Layer) (p q : ℕ) (c : Cell) → (q ≡ p → ⊥) → at (written l p c) q ≡ at l q
 at-other l p q c n = ap₂ cell (getD-set-other (l .pix2depth) p q (c .depth) nan n) (getD-set-other (l .pix2tri) p q (c .number) 0 n)
 
 spans-written : (l : Layer) (p : ℕ) (c : Cell) (n : ℕ) → Spans l n → Spans (written l p c) n
 spans-written l p c n s =
     record { numbers = length-set (l .pix2tri) p (c .number) ∙ s .numbers; depths = length-set (l .pix2depth) p (c .depth) ∙ s .depths }
 
+pub spans-stepped : (l : Layer) (p k : ℕ) (z : Float) (n : ℕ) → Spans l n → Spans (stepped l p k z) n
+unfolding stepped
+spans-stepped l p k z n s = spans-written l p (pick (at l p) (cell z k)) n s
+
 module _ (s : Triangle (Vec3 Float)) (k w ix iy n : ℕ) (l : Layer) (whole : Spans l n) (r : Reaches l (iy * w + ix)) (inside : ix < w) where
-  -- the pixel's candidate written there is the box of that pixel painted
-  pub pixel-painted :
-      written l (iy * w + ix) (pick (at l (iy * w + ix)) (cell (orLowest (depthAt s (centreAt ix iy))) k))
-      ≡ painted (boxCells s k w ix (ix + 1) iy (iy + 1)) n l
-  unfolding offered
+  -- the pixel's candidate brought to it is the box of that pixel painted
+  pub pixel-painted : stepped l (iy * w + ix) k (orLowest (depthAt s (centreAt ix iy))) ≡ painted (boxCells s k w ix (ix + 1) iy (iy + 1)) n l
+  unfolding offered stepped
   pixel-painted =
       same-layer n (spans-written l _ _ n whole) (spans-painted _ n l)
       (λ p h. go p (eqb p (iy * w + ix)) refl ∙ sym (at-painted (boxCells s k w ix (ix + 1) iy (iy + 1)) n l p h))
@@ -105,7 +113,7 @@ module _ (s : Triangle (Vec3 Float)) (k w ix iy n : ℕ) (l : Layer) (whole : Sp
       → qx ≡ centre ix
       → qy ≡ centre iy
       → z ≡ orLowest (depthAt s (vec2 qx qy))
-      → new ≡ written l (iy * w + ix) (pick (at l (iy * w + ix)) (cell z k))
+      → new ≡ stepped l (iy * w + ix) k z
       → new ≡ painted (boxCells s k w ix (ix + 1) iy (iy + 1)) n l
   unfolding centreOf
   pixel-done ex ey ez e = e ∙ rw (ez, ex, ey) pixel-painted

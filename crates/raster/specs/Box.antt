@@ -24,3 +24,7 @@ boxCells s k w x0 x1 y0 y1 p = numbered k (boxBrings s w x0 x1 y0 y1 p)
 pub record Within (a b n : ℕ) : Type 0 where
   pub order : a ≤ b
   pub most : b ≤ n
+
+-- i, but not past n
+unfoldable pub upTo : ℕ → ℕ → ℕ
+upTo n i = cond (ltb i n) i n

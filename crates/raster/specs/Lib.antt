@@ -2,5 +2,6 @@
 pub mod Answer
 pub mod Reach
 pub mod Box
+pub mod Step
 pub mod Piece
 pub mod Face

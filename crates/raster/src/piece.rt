@@ -1,11 +1,12 @@
-// One piece: its corners on the screen, the tests that most faces fail early, its box, and then the scan.
+// One piece: the tests that faces off the image fail early, its corners on the screen, its box, and then the scan.
 
 use super::Screen;
 ghost use mathlib.Core.Path.{_≡_};
-ghost use mathlib.Core.Bool.{_&&_, Bool, true, false};
-ghost use Prim.Native.Nat.{_+_, _*_, _≤_, _<_};
-ghost use lib.ListN.{length};
-ghost use Rattle.geometry.specs.Leaf as leaf;
+ghost use mathlib.Core.Bool.{false};
+ghost use mathlib.Core.List.{[]};
+ghost use Prim.Native.Nat.{ℕ, _*_, _≤_, _<_};
+ghost use lib.Ieee.{Float};
+ghost use Rattle.geometry.specs.Vector.{vec3};
 ghost use Rattle.questions.specs.Laws.{Sized};
 ghost use Rattle.layers.specs.Layer.{layer};
 ghost use Rattle.layers.specs.Steps.{Spans};
@@ -39,39 +40,84 @@ fn greatest(a: f32, b: f32, c: f32) -> f32
     upper(upper(a, b), c)
 }
 
+// The column in pixels, not whole, of a corner with coordinate x.
+fn column(w: usize, x: f32) -> f32
+    requires { ⌜ w ≤ 4096 ⌝ }
+    ensures { λ r. ⌜ ((h : ℕ) (y z : Float) → r ≡ rule.onScreen w h (vec3 x y z) .x) ⌝ }
+{
+    (x + 1.0) * 0.5 * pixels::as_float(w)
+}
+
+// The row in pixels of a corner with coordinate y.
+fn row(h: usize, y: f32) -> f32
+    requires { ⌜ h ≤ 4096 ⌝ }
+    ensures { λ r. ⌜ ((w : ℕ) (x z : Float) → r ≡ rule.onScreen w h (vec3 x y z) .y) ⌝ }
+{
+    (1.0 - y) * 0.5 * pixels::as_float(h)
+}
+
+// Whether the columns are finite and span a centre of the image. Where they are not, the piece brings no pixel anything.
+// Each is tested before the next is worked out: all at once, they would be loaded together, before what was stored one by one is there.
+fn columns_meet(w: usize, ndc: [[f32; 3]; 3]) -> bool
+    requires { ⌜ 1 ≤ w ⌝ }
+    requires { ⌜ w ≤ 4096 ⌝ }
+    ensures { λ r. ⌜ (r ≡ false → (h ix iy : ℕ) → ix < w → rule.candidate (rule.screened w h (pieceOf ndc)) ix iy ≡ []) ⌝ }
+{
+    let x0 = column(w, ndc[0][0]);
+    if !geometry::finite(x0) {
+        return false;
+    }
+    let x1 = column(w, ndc[1][0]);
+    if !geometry::finite(x1) {
+        return false;
+    }
+    let x2 = column(w, ndc[2][0]);
+    if !geometry::finite(x2) {
+        return false;
+    }
+    super::reach::meets(least(x0, x1, x2), greatest(x0, x1, x2), w)
+}
+
+// The same of the rows.
+fn rows_meet(h: usize, ndc: [[f32; 3]; 3]) -> bool
+    requires { ⌜ 1 ≤ h ⌝ }
+    requires { ⌜ h ≤ 4096 ⌝ }
+    ensures { λ r. ⌜ (r ≡ false → (w ix iy : ℕ) → iy < h → rule.candidate (rule.screened w h (pieceOf ndc)) ix iy ≡ []) ⌝ }
+{
+    let y0 = row(h, ndc[0][1]);
+    if !geometry::finite(y0) {
+        return false;
+    }
+    let y1 = row(h, ndc[1][1]);
+    if !geometry::finite(y1) {
+        return false;
+    }
+    let y2 = row(h, ndc[2][1]);
+    if !geometry::finite(y2) {
+        return false;
+    }
+    super::reach::meets(least(y0, y1, y2), greatest(y0, y1, y2), h)
+}
+
 fn screened(w: usize, h: usize, ndc: [[f32; 3]; 3]) -> Screen
     requires { ⌜ w ≤ 4096 ⌝ }
     requires { ⌜ h ≤ 4096 ⌝ }
     ensures { λ r. ⌜ screenOf r ≡ rule.screened w h (pieceOf ndc) ⌝ }
 {
-    let fw = pixels::as_float(w);
-    let fh = pixels::as_float(h);
     Screen {
-        x0: (ndc[0][0] + 1.0) * 0.5 * fw,
-        y0: (1.0 - ndc[0][1]) * 0.5 * fh,
+        x0: column(w, ndc[0][0]),
+        y0: row(h, ndc[0][1]),
         z0: ndc[0][2],
-        x1: (ndc[1][0] + 1.0) * 0.5 * fw,
-        y1: (1.0 - ndc[1][1]) * 0.5 * fh,
+        x1: column(w, ndc[1][0]),
+        y1: row(h, ndc[1][1]),
         z1: ndc[1][2],
-        x2: (ndc[2][0] + 1.0) * 0.5 * fw,
-        y2: (1.0 - ndc[2][1]) * 0.5 * fh,
+        x2: column(w, ndc[2][0]),
+        y2: row(h, ndc[2][1]),
         z2: ndc[2][2],
     }
 }
 
-fn three_finite(a: f32, b: f32, c: f32) -> bool
-    ensures { λ r. ⌜ r ≡ leaf.finite a && (leaf.finite b && leaf.finite c) ⌝ }
-{
-    if !geometry::finite(a) {
-        return false;
-    }
-    if !geometry::finite(b) {
-        return false;
-    }
-    geometry::finite(c)
-}
-
-// A piece on the screen, all of whose pixel coordinates are finite.
+// The box of a piece on the screen, and its scan.
 fn draw_screen(
     pix2tri: &mut [u32],
     pix2depth: &mut [f32],
@@ -86,19 +132,13 @@ fn draw_screen(
 {
     let lx = least(s.x0, s.x1, s.x2);
     let hx = greatest(s.x0, s.x1, s.x2);
-    if !super::reach::meets(lx, hx, w) {
-        return;
-    }
-    let ly = least(s.y0, s.y1, s.y2);
-    let hy = greatest(s.y0, s.y1, s.y2);
-    if !super::reach::meets(ly, hy, h) {
-        return;
-    }
     let x0 = super::reach::first_reached(true, lx, w);
     let x1 = super::reach::first_reached(false, hx, w);
     if x1 <= x0 {
         return;
     }
+    let ly = least(s.y0, s.y1, s.y2);
+    let hy = greatest(s.y0, s.y1, s.y2);
     let y0 = super::reach::first_reached(true, ly, h);
     let y1 = super::reach::first_reached(false, hy, h);
     if y1 <= y0 {
@@ -107,7 +147,7 @@ fn draw_screen(
     super::scan::draw_box(pix2tri, pix2depth, w, h, s, number, x0, x1, y0, y1);
 }
 
-// The Rust's rasterize_projected_tri. A piece with a corner not finite in pixels has weights nowhere.
+// The Rust's rasterize_projected_tri.
 pub fn rasterize_projected_tri(
     pix2tri: &mut [u32],
     pix2depth: &mut [f32],
@@ -120,12 +160,11 @@ pub fn rasterize_projected_tri(
     requires { ⌜ Spans (layer (now pix2tri) (now pix2depth)) (w * h) ⌝ }
     ensures { λ _. ⌜ layer (now (pix2tri .exit)) (now (pix2depth .exit)) ≡ painted (pieceCells (rule.screened w h (pieceOf ndc)) number w) (w * h) (layer (now (pix2tri .entry)) (now (pix2depth .entry))) ⌝ }
 {
-    let s = screened(w, h, ndc);
-    if !three_finite(s.x0, s.x1, s.x2) {
+    if !columns_meet(w, ndc) {
         return;
     }
-    if !three_finite(s.y0, s.y1, s.y2) {
+    if !rows_meet(h, ndc) {
         return;
     }
-    draw_screen(pix2tri, pix2depth, w, h, number, s);
+    draw_screen(pix2tri, pix2depth, w, h, number, screened(w, h, ndc));
 }

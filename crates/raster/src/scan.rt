@@ -1,22 +1,20 @@
-// The scan of a box: row by row, left to right.
+// The scan of a box: row by row, left to right, four pixels at a time.
 
 use super::Screen;
 ghost use mathlib.Core.Path.{_≡_};
-ghost use Prim.Native.Nat.{_+_, _*_, _≤_, _<_};
+ghost use Prim.Native.Nat.{ℕ, _+_, _*_, _≤_, _<_};
 ghost use Rattle.questions.specs.Laws.{Sized};
-ghost use Rattle.layers.specs.Cell.{cell, pick};
-ghost use Rattle.layers.specs.Layer.{layer, at};
-ghost use Rattle.layers.specs.Steps.{Spans, Reaches, written};
+ghost use Rattle.layers.specs.Layer.{layer};
+ghost use Rattle.layers.specs.Steps.{Spans, Reaches};
 ghost use Rattle.rules.specs.Draw.{painted};
 ghost use Rattle.raster.specs.Answer.{screenOf};
-ghost use Rattle.raster.specs.Box.{boxCells, Within};
+ghost use Rattle.raster.specs.Box.{boxCells, upTo, Within};
+ghost use Rattle.raster.specs.Step.{stepped};
 
 // Depth and number are written at pixel p only when the depth is greater than the stored one.
 fn put(pix2tri: &mut [u32], pix2depth: &mut [f32], p: usize, depth: f32, number: u32)
     requires { ⌜ Reaches (layer (now pix2tri) (now pix2depth)) p ⌝ }
-    ensures { λ _. ⌜ layer (now (pix2tri .exit)) (now (pix2depth .exit))
-        ≡ written (layer (now (pix2tri .entry)) (now (pix2depth .entry))) p
-        (pick (at (layer (now (pix2tri .entry)) (now (pix2depth .entry))) p) (cell depth number)) ⌝ }
+    ensures { λ _. ⌜ layer (now (pix2tri .exit)) (now (pix2depth .exit)) ≡ stepped (layer (now (pix2tri .entry)) (now (pix2depth .entry))) p number depth ⌝ }
 {
     if pix2depth[p] < depth {
         pix2depth[p] = depth;
@@ -48,8 +46,8 @@ fn draw_pixel(
     put(pix2tri, pix2depth, iy * w + ix, z, number);
 }
 
-// Columns x0 to x1 of row iy.
-fn draw_row(
+// Columns x0 to x1 of row iy, one by one.
+fn draw_pixels(
     pix2tri: &mut [u32],
     pix2depth: &mut [f32],
     w: usize,
@@ -71,6 +69,77 @@ fn draw_row(
     while ix < x1 {
         draw_pixel(pix2tri, pix2depth, w, h, s, number, ix, iy);
         ix += 1;
+    }
+}
+
+// Four columns can be drawn at once from each column before this one: some are before x1, and all are in the image.
+fn blocks_end(x1: usize, w: usize) -> usize
+    requires { ⌜ x1 ≤ w ⌝ }
+    requires { ⌜ w ≤ 4096 ⌝ }
+    ensures { λ r. ⌜ ((i : ℕ) → i < r → (i < x1) × (i + 4 ≤ w)) ⌝ }
+{
+    if x1 + 3 <= w {
+        return x1;
+    }
+    if w < 3 {
+        return 0;
+    }
+    w - 3
+}
+
+// Columns of row iy from x0 on, four at a time. Answers the first that is left; those before x1 are drawn as far as that.
+// The centre is carried along: worked out anew from ix, the loop would be turned into one over four blocks at once, which is slower.
+fn draw_blocks(
+    pix2tri: &mut [u32],
+    pix2depth: &mut [f32],
+    w: usize,
+    h: usize,
+    s: Screen,
+    number: u32,
+    x0: usize,
+    x1: usize,
+    iy: usize,
+) -> usize
+    requires { ⌜ Sized 1 w h ⌝ }
+    requires { ⌜ Spans (layer (now pix2tri) (now pix2depth)) (w * h) ⌝ }
+    requires { ⌜ Within x0 x1 w ⌝ }
+    requires { ⌜ iy < h ⌝ }
+    ensures { λ r. ⌜ (x0 ≤ r) × (layer (now (pix2tri .exit)) (now (pix2depth .exit))
+        ≡ painted (boxCells (screenOf s) number w x0 (upTo x1 r) iy (iy + 1)) (w * h) (layer (now (pix2tri .entry)) (now (pix2depth .entry)))) ⌝ }
+{
+    let end = blocks_end(x1, w);
+    let mut ix = x0;
+    let mut qx = pixels::centre(x0);
+    while ix < end {
+        super::block::draw_four(pix2tri, pix2depth, w, h, s, number, ix, x1, iy, qx);
+        ix += 4;
+        qx += 4.0;
+    }
+    ix
+}
+
+// Columns x0 to x1 of row iy: four at a time, and the last ones before the image's edge one by one.
+fn draw_row(
+    pix2tri: &mut [u32],
+    pix2depth: &mut [f32],
+    w: usize,
+    h: usize,
+    s: Screen,
+    number: u32,
+    x0: usize,
+    x1: usize,
+    iy: usize,
+)
+    requires { ⌜ Sized 1 w h ⌝ }
+    requires { ⌜ Spans (layer (now pix2tri) (now pix2depth)) (w * h) ⌝ }
+    requires { ⌜ Within x0 x1 w ⌝ }
+    requires { ⌜ iy < h ⌝ }
+    ensures { λ _. ⌜ layer (now (pix2tri .exit)) (now (pix2depth .exit))
+        ≡ painted (boxCells (screenOf s) number w x0 x1 iy (iy + 1)) (w * h) (layer (now (pix2tri .entry)) (now (pix2depth .entry))) ⌝ }
+{
+    let left = draw_blocks(pix2tri, pix2depth, w, h, s, number, x0, x1, iy);
+    if left < x1 {
+        draw_pixels(pix2tri, pix2depth, w, h, s, number, left, x1, iy);
     }
 }
 

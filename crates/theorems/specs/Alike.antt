@@ -1,28 +1,28 @@
 -- What a pass can tell of a face list and its map: a full list with its drawing, and the thinned list with the renumbered map, are alike.
-use Prim.Native.Nat.{ℕ, zero, suc, _+_, _*_, _/_, _<_, _≤_}
+use Prim.Native.Nat.{ℕ, suc, _/_, _<_, _≤_}
 use mathlib.Core.Path.{_≡_, refl, ap, sym, _∙_, subst}
 use mathlib.Core.Logic.{_⊎_, inl, inr}
-use mathlib.Core.Bool.{Bool, true, false, not, _&&_}
-use mathlib.Core.List.{List, [], _∷_, map, List·Memᴰ}
+use mathlib.Core.Bool.{Bool, true, not}
+use mathlib.Core.List.{List, [], _∷_, map}
 use native.Mathlib.Nat.{zero-add}
 use native.Mathlib.Omega.{arith}
 use lib.Dec.{T, ltb, ltb→lt, nltb→le}
-use lib.ListN.{length, length-map, getD, List·getD-eq-default, List·getD-map}
+use lib.ListN.{length, length-map, getD, List·getD-eq-default}
 use Rattle.questions.specs.Questions.{groups, every, allBelow, namesFace, namesFaces, empty, mostCount}
-use Rattle.layers.specs.Cell.{Cell, clear}
-use Rattle.layers.specs.Layer.{Layer, tabulate}
-use Rattle.layers.specs.Offers.{offersOf, Greatest, Shows, uncovered, covered}
+use Rattle.layers.specs.Cell.{Cell}
+use Rattle.layers.specs.Layer.{Layer}
+use Rattle.layers.specs.Offers.{offersOf, Shows, uncovered, covered}
 use Rattle.layers.specs.Laws.Order.{test}
 use Rattle.layers.specs.Laws.Greatest.{first-of-greatest}
-use Rattle.layers.specs.Laws.Pixels.{length-tabulate, getD-tabulate}
-use Rattle.meshes.specs.Mesh.{Face, facesOf}
-use Rattle.meshes.specs.View.{View, entryAt, viewOf}
-use Rattle.rules.specs.Offers.{Scene, brings, brought}
+use Rattle.layers.specs.Laws.Pixels.{getD-tabulate}
+use Rattle.meshes.specs.Mesh.{Face}
+use Rattle.meshes.specs.View.{entryAt, viewOf}
+use Rattle.rules.specs.Offers.{Scene, brought}
 use Rattle.theorems.specs.Joins.{won}
 use Rattle.theorems.specs.Faces.{keptFrom, renumber}
 use Rattle.theorems.specs.Plan.{flat}
 use Rattle.theorems.specs.Whole.{fresh, fresh-pixels, fresh-spans, pixelCount, length-flat, groups-flat}
-use Rattle.theorems.specs.Thinned.{Mesh, Idle, shown-kept, shown-face, kept-length, kept-below}
+use Rattle.theorems.specs.Thinned.{Idle, shown-kept, shown-face, kept-length, kept-below}
 use Rattle.theorems.specs.Views.{Kept, kept-names, was-named, entry-moved, view-same}
 
 -- All that the questions and the work of a pass with n vertices take of a face slice and a map.

@@ -12,12 +12,12 @@ use mathlib.Core.List.{List, map}
 use lib.Ieee.{Float, nan}
 use lib.ListN.{length, getD}
 use Rattle.questions.specs.Questions.{allBelow}
-use Rattle.layers.specs.Layer.{Layer, layer, at}
+use Rattle.layers.specs.Layer.{Layer, at}
 use Rattle.layers.specs.Offers.{Shows}
 use Rattle.layers.specs.Laws.Greatest.{first-of-greatest}
 use Rattle.meshes.specs.Mesh.{Face, facesOf}
 use Rattle.meshes.specs.View.{viewOf}
-use Rattle.rules.specs.Offers.{Scene, scene, brought, offers}
+use Rattle.rules.specs.Offers.{Scene, brought, offers}
 use Rattle.rules.specs.Calls.{drawCode, draws}
 use Rattle.values.specs.Pass.{Image, Vertices, vertices}
 use Rattle.values.specs.Interpolate.{interpolating}

@@ -1,10 +1,10 @@
 -- Faces taken out and renumbered, at one pixel.
 use Prim.Native.Nat.{ℕ, zero, suc, _+_, _≤_, _<_}
-use mathlib.Core.Path.{_≡_, refl, ap, ap₂, sym, _∙_, subst}
+use mathlib.Core.Path.{_≡_, refl, ap, sym, _∙_, subst}
 use mathlib.Core.Logic.{_⊎_, inl, inr}
 use mathlib.Core.Bool.{Bool, true, false, not, cond}
-use mathlib.Core.List.{List, [], _∷_, _++_, append-assoc, map, map-append, List·Memᴰ, List·Memᴰ·head, List·Memᴰ·tail, List·Memᴰ·not-nil, List·Memᴰ·append-cases, Memᴰ·append-right}
-use native.Mathlib.Nat.{add-zero, add-suc}
+use mathlib.Core.List.{List, [], _∷_, _++_, append-assoc, map, map-append, List·Memᴰ, List·Memᴰ·head, List·Memᴰ·tail, List·Memᴰ·not-nil, List·Memᴰ·append-cases}
+use native.Mathlib.Nat.{add-zero}
 use native.Mathlib.Omega.{arith}
 use borrow.Author.Tests.{ne-eqb}
 use lib.Dec.{T, eqb}
@@ -13,7 +13,6 @@ use lib.Ieee.{Float}
 use Rattle.questions.specs.Questions.{empty}
 use Rattle.layers.specs.Cell.{Cell, cell, clear, pick}
 use Rattle.layers.specs.Offers.{numbered, brought, offersOf, Greatest}
-use Rattle.layers.specs.Laws.Order.{test}
 use Rattle.theorems.specs.Joins.{won, won-append}
 use Rattle.theorems.specs.Removal.{keptCells, keeps, drops, kept-append, won-kept, renumberCell, won-renumber}
 

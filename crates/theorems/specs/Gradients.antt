@@ -1,5 +1,5 @@
 -- Sums leave every place alone that no addition names.
-use Prim.Native.Nat.{ℕ, zero, suc, _+_, _*_, _/_, _<_, _≤_}
+use Prim.Native.Nat.{ℕ, zero, suc, _+_, _*_, _/_, _<_}
 use mathlib.Core.Path.{_≡_, refl, sym, _∙_, ap}
 use mathlib.Core.Logic.{_⊎_, inl, inr}
 use mathlib.Core.Bool.{Bool, true, false, cond}
@@ -22,7 +22,7 @@ use Rattle.values_bwd.specs.Bwd.{Sums, incomingAt, xyzAt, valAt, summedOver, bw
 use Rattle.pixels.specs.Pixel.{centreOf}
 use Rattle.pixels.specs.Edge.{Axis, hedge, vedge, Edge}
 use Rattle.edges.specs.Inside.{contains, projectFace}
-use Rattle.edges.specs.Types.{Sight, sight, firstOf, secondOf}
+use Rattle.edges.specs.Types.{sight, firstOf, secondOf}
 use Rattle.edges.specs.Gradient.{Signal, dldr}
 use Rattle.tris.specs.Tri.{pointOn}
 use Rattle.tris.specs.Weights.{allInside}

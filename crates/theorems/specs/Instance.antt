@@ -5,11 +5,10 @@ use mathlib.Core.Bool.{Bool, true, false, not}
 use mathlib.Core.List.{List, [], _∷_, _++_}
 use native.Mathlib.Omega.{arith}
 use lib.Dec.{T, eqb, eqb→eq, lit<}
-use lib.Ieee.{Float, nan, binary32, ofBits}
+use lib.Ieee.{nan, binary32, ofBits}
 use Rattle.questions.specs.Questions.{firstNo, sizes}
 use Rattle.layers.specs.Cell.{Cell}
 use Rattle.layers.specs.Calls.{joining, joinCode}
-use Rattle.layers.specs.Offers.{Greatest}
 use Rattle.layers.specs.Laws.Greatest.{first-of-greatest}
 use Rattle.meshes.specs.Mesh.{Face, face, facesOf}
 use Rattle.rules.specs.Offers.{Scene, scene, brought, offers, Holds}
@@ -17,7 +16,7 @@ use Rattle.rules.specs.Calls.{drawCode}
 use Rattle.theorems.specs.Joins.{won}
 use Rattle.theorems.specs.Whole.{pixelCount, cleared}
 use Rattle.theorems.specs.Removal.{with-greatest}
-use Rattle.theorems.specs.Calls.{Store, Call, clear, draw, join, whole, after, afterAll}
+use Rattle.theorems.specs.Calls.{Store, Call, join, whole, after, afterAll}
 use Rattle.theorems.specs.Plan as plan
 use Rattle.theorems.specs.Plan.{joined, Stands, nothing, runs, now, Keeps, over, clears, joins, refused, clearOf, drawOf, joinOf}
 use Rattle.theorems.specs.Faces.{keptFrom}

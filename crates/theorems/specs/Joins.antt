@@ -1,12 +1,13 @@
 -- Joining what two lists bring is bringing one after the other, in any bracketing.
 use mathlib.Core.Path.{_≡_, refl, ap, sym, _∙_}
 use mathlib.Core.Logic.{_⊎_, inl, inr}
-use mathlib.Core.Bool.{Bool, true, false, not}
+use mathlib.Core.Bool.{not}
 use mathlib.Core.List.{List, [], _∷_, _++_}
 use lib.Dec.{T}
 use lib.Ieee.{isNan}
 use Rattle.layers.specs.Cell.{Cell, clear, exceeds, pick, offered}
 use Rattle.layers.specs.Laws.Order.{test, lt-trans, not-lt-trans, above-number, lt-irrefl}
+use Rattle.layers.specs.Laws.Cells.{offered-append}
 use Rattle.layers.specs.Laws.Greatest.{pick-right, pick-left, pick-no-offer}
 
 -- A depth that is no NaN. A join is not associative past a NaN in the middle; no layer that was cleared and drawn holds one.
@@ -63,11 +64,6 @@ pub offered-sure : (c : Cell) (cs : List Cell) → Sure c → Sure (offered c cs
 unfolding offered
 offered-sure c [] s = s
 offered-sure c (x ∷ cs) s = offered-sure (pick c x) cs (sure-pick c x s)
-
-pub offered-append : (c : Cell) (xs ys : List Cell) → offered c (xs ++ ys) ≡ offered (offered c xs) ys
-unfolding offered
-offered-append c [] ys = refl
-offered-append c (x ∷ xs) ys = offered-append (pick c x) xs ys
 
 -- drawing on a cell is drawing on a clear one, joined to it
 pub offered-won : (a : Cell) (cs : List Cell) → offered a cs ≡ pick a (won cs)

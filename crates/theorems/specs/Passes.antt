@@ -1,17 +1,17 @@
 -- Face lists and maps that are alike: every pass gives the same code and the same numbers.
 use Prim.Native.Nat.{ℕ, _/_}
-use mathlib.Core.Path.{_≡_, refl, sym, ap}
+use mathlib.Core.Path.{_≡_}
 use mathlib.Core.List.{List}
 use lib.Ieee.{Float}
 use lib.ListN.{length}
-use Rattle.meshes.specs.View.{View, viewOf}
-use Rattle.values.specs.Pass.{Image, Vertices, vertices, count}
+use Rattle.meshes.specs.View.{viewOf}
+use Rattle.values.specs.Pass.{Image, vertices}
 use Rattle.values.specs.Interpolate.{interpolating, interpolateCode}
 use Rattle.values.specs.Questions.{exactCounts}
 use Rattle.values_bwd.specs.Bwd as bwd
 use Rattle.values_bwd.specs.Bwd.{Sums, interpolatingBwd}
-use Rattle.edges.specs.Types.{Sight, sight}
-use Rattle.edges.specs.Gradient.{Signal, signal}
+use Rattle.edges.specs.Types.{sight}
+use Rattle.edges.specs.Gradient.{Signal}
 use Rattle.edges.specs.Calls as edges
 use Rattle.edges.specs.Calls.{Sheet, edgeCode, edgeTyping, exactAll}
 use Rattle.edge_bwd.specs.Calls as back

@@ -1,10 +1,10 @@
 -- The plan of 01, "Demand 3's words": a cut of a face list into runs, a layer for each, cleared, drawn, and joined until one remains.
-use Prim.Native.Nat.{ℕ, zero, suc, _+_, _*_, _<_}
+use Prim.Native.Nat.{ℕ, _+_, _*_, _<_}
 use mathlib.Core.Path.{_≡_}
 use mathlib.Core.Bool.{cond}
 use mathlib.Core.List.{List, [], _∷_, _++_}
 use lib.Dec.{eqb}
-use lib.ListN.{length, take, drop, getD}
+use lib.ListN.{length, take, getD}
 use Rattle.layers.specs.Steps.{Spans}
 use Rattle.meshes.specs.Mesh.{Face}
 use Rattle.rules.specs.Offers.{Scene}

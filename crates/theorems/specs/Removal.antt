@@ -1,14 +1,12 @@
 -- Taking out what does not hold a pixel leaves the pixel as it was, and renumbering what is left renumbers the pixel.
 use Prim.Native.Nat.{ℕ}
 use mathlib.Core.Path.{_≡_, refl, ap, sym, _∙_, subst}
-use mathlib.Core.Logic.{_⊎_, inl, inr}
 use mathlib.Core.Bool.{Bool, true, false, not, cond, true≢false}
 use mathlib.Core.List.{List, [], _∷_, _++_, map, List·Memᴰ, List·Memᴰ·head, List·Memᴰ·tail, List·Memᴰ·not-nil, Memᴰ·append-right}
-use lib.Dec.{T, T-not, not-T}
+use lib.Dec.{T}
 use Rattle.layers.specs.Cell.{Cell, cell, clear, exceeds, pick, offered}
 use Rattle.layers.specs.Offers.{offersOf, Exceeded, Greatest, Shows, uncovered, covered}
-use Rattle.layers.specs.Laws.Order.{test}
-use Rattle.layers.specs.Laws.Greatest.{pick-right, pick-left, first-of-greatest, greatest-unique, overtaken}
+use Rattle.layers.specs.Laws.Greatest.{first-of-greatest, greatest-unique, overtaken}
 use Rattle.theorems.specs.Joins.{won}
 
 -- the cells whose number passes

@@ -1,31 +1,29 @@
 -- An accepted mesh, thinned and cut: every run is accepted, and the thinned list's drawing is the full one's, renumbered.
-use Prim.Native.Nat.{ℕ, zero, suc, _+_, _*_, _/_, _%_, _<_, _≤_}
+use Prim.Native.Nat.{ℕ, zero, suc, _+_, _*_, _/_, _<_, _≤_}
 use mathlib.Core.Path.{_≡_, refl, ap, ap₂, sym, _∙_, subst}
 use mathlib.Core.Logic.{_⊎_, inl, inr}
 use mathlib.Core.Bool.{Bool, true, false, not, cond, _&&_}
 use mathlib.Core.List.{List, [], _∷_, _++_, map, List·Memᴰ, List·Memᴰ·head, List·Memᴰ·tail, Memᴰ·append-right}
 use native.Mathlib.Nat.{not-suc-le-zero, le-of-suc-le-suc}
 use native.Mathlib.Omega.{arith}
-use borrow.Author.Tests.{leb-true, eqb-true}
-use lib.Dec.{T, ltb, leb, eqb, T-not}
-use lib.ListN.{length, length-append, take, drop, getD}
-use lib.Ieee.{Float, nan}
-use Rattle.questions.specs.Questions.{sizes, groups, exact, numbers, every, allBelow, mostCount, empty, ask}
-use Rattle.questions.specs.Laws.{both, accepted}
-use Rattle.layers.specs.Cell.{Cell, cell, clear, exceeds}
-use Rattle.layers.specs.Layer.{Layer, layer, at, tabulate, pixelwise}
+use lib.Dec.{T, ltb}
+use lib.ListN.{length, length-append, take}
+use Rattle.questions.specs.Questions.{sizes, groups, numbers, every, allBelow, mostCount}
+use Rattle.questions.specs.Laws.{both, accepted, grouped, whole}
+use Rattle.layers.specs.Cell.{Cell, clear, exceeds}
+use Rattle.layers.specs.Layer.{Layer, layer, tabulate}
 use Rattle.layers.specs.Calls.{exactLayer}
 use Rattle.layers.specs.Offers as offers
 use Rattle.layers.specs.Offers.{offersOf, Greatest}
 use Rattle.layers.specs.Laws.Order.{test}
 use Rattle.layers.specs.Laws.Pixels.{pixelwise-same}
-use Rattle.meshes.specs.Mesh.{Face, face, facesOf}
-use Rattle.rules.specs.Offers.{Scene, scene, brings, brought, Holds}
+use Rattle.meshes.specs.Mesh.{Face, facesOf}
+use Rattle.rules.specs.Offers.{Scene, brings, brought, Holds}
 use Rattle.rules.specs.Offers as rules
 use Rattle.rules.specs.Calls.{drawCode}
 use Rattle.theorems.specs.Joins.{won}
 use Rattle.theorems.specs.Removal.{renumberCell}
-use Rattle.theorems.specs.Faces.{keptFrom, keptBefore, renumber, won-thinned, brought-number}
+use Rattle.theorems.specs.Faces.{keptFrom, renumber, won-thinned, brought-number}
 use Rattle.theorems.specs.Plan.{flat, joined, run, firstOf}
 use Rattle.theorems.specs.Whole.{Fit, fresh, fresh-pixels, pixelCount, length-flat}
 
@@ -33,10 +31,6 @@ use Rattle.theorems.specs.Whole.{Fit, fresh, fresh-pixels, pixelCount, l
 
 below : ℕ → Face → Bool
 below n f = ltb (f .v0) n && (ltb (f .v1) n && ltb (f .v2) n)
-
-and-assoc : (a b c : Bool) → a && (b && c) ≡ (a && b) && c
-and-assoc true b c = refl
-and-assoc false b c = refl
 
 flat-cons : (n : ℕ) (f : Face) (fs : List Face) → allBelow n (flat (f ∷ fs)) ≡ below n f && allBelow n (flat fs)
 unfolding flat every below
@@ -100,16 +94,10 @@ flat-faces zero (a ∷ b ∷ c ∷ tri) e = absurd (omega arith)
 flat-faces (suc n) (a ∷ b ∷ c ∷ tri) e = ap (λ (l : List ℕ). a ∷ b ∷ c ∷ l) (flat-faces n tri (omega arith))
 
 threes-of : (tri : List ℕ) → groups 3 (length tri) ≡ true → flat (facesOf tri) ≡ tri
-unfolding groups
-threes-of tri e =
-    let parts = both (eqb (length tri % 3) 0) _ e in
-    flat-faces (length tri / 3) tri (omega (arith, eqb-true (length tri % 3) 0 (parts .0)))
+threes-of tri e = flat-faces (length tri / 3) tri (sym (whole 3 (length tri) (grouped 3 (length tri) e)))
 
 few-of : (tri : List ℕ) → groups 3 (length tri) ≡ true → length (facesOf tri) ≤ mostCount
-unfolding groups
-few-of tri e =
-    let parts = both (eqb (length tri % 3) 0) _ e in
-    omega (arith, leb-true (length tri / 3) mostCount (parts .1), length-flat (facesOf tri), ap length (threes-of tri e))
+few-of tri e = omega (arith, grouped 3 (length tri) e .most, length-flat (facesOf tri), ap length (threes-of tri e))
 
 -- ---- an accepted mesh
 

@@ -1,22 +1,21 @@
 -- A thinned list with its map shows what the full list with its map does: every pass that sees a view gives the same.
-use Prim.Native.Nat.{ℕ, zero, suc, _+_, _-_, _*_, _/_, _<_, _≤_}
-use mathlib.Core.Path.{_≡_, refl, ap, ap₂, sym, _∙_, subst}
+use Prim.Native.Nat.{ℕ, zero, suc, _+_, _-_, _*_, _<_, _≤_}
+use mathlib.Core.Path.{_≡_, refl, ap, ap₂, sym, _∙_}
 use mathlib.Core.Logic.{_⊎_, inl, inr}
-use mathlib.Core.Bool.{Bool, true, false, not, cond, _&&_, _||_, true≢false}
-use mathlib.Core.Option.{Option, none, some}
+use mathlib.Core.Bool.{Bool, true, false, not, cond, or-true}
+use mathlib.Core.Option.{some}
 use mathlib.Core.List.{List, [], _∷_, map}
 use native.Mathlib.Nat.{not-suc-le-zero, le-of-suc-le-suc, add-zero, zero-add, add-suc}
 use native.Mathlib.Omega.{arith}
 use borrow.Author.Tests.{eq-eqb, ne-eqb, eqb-true, eqb-false, lt-ltb}
 use lib.Dec.{T, eqb, ltb, ltb→lt, nltb→le}
-use lib.ListN.{length, length-map, getD, List·getD-map}
-use Rattle.questions.specs.Questions.{every, namesFace, namesFaces, empty, mostCount}
+use lib.ListN.{length, getD, List·getD-map}
+use Rattle.questions.specs.Questions.{namesFace, empty, mostCount}
 use Rattle.layers.specs.Laws.Order.{test}
-use Rattle.meshes.specs.Mesh.{Face, face, faceAt, facesOf}
-use Rattle.meshes.specs.View.{View, named, entryAt, viewOf}
+use Rattle.meshes.specs.Mesh.{Face, face, faceAt}
+use Rattle.meshes.specs.View.{named, entryAt, viewOf}
 use Rattle.theorems.specs.Faces.{keptFrom, keptBefore, renumber}
 use Rattle.theorems.specs.Plan.{flat}
-use Rattle.theorems.specs.Whole.{length-flat}
 use Rattle.theorems.specs.Thinned.{kept-length}
 
 -- ---- counting kept faces
@@ -110,10 +109,6 @@ face-flat d (f ∷ fs) (suc i) h = shifted ∙ face-flat d fs i (le-of-suc-le-su
     shifted = rw (one, two, three)
 
 -- ---- entries
-
-or-true : (b : Bool) → b || true ≡ true
-or-true true = refl
-or-true false = refl
 
 module _ (fs : List Face) (keep : ℕ → Bool) (few : length fs ≤ mostCount) where
   -- an entry that the thinned list can keep: empty, or a kept face's number

@@ -1,32 +1,27 @@
 -- A sequence of calls that keeps to the plan: what each layer holds, call by call.
-use Prim.Native.Nat.{ℕ, zero, suc, _+_, _*_, _/_, _%_, _<_, _≤_}
+use Prim.Native.Nat.{ℕ, _+_, _*_, _/_, _%_, _<_, _≤_}
 use mathlib.Core.Path.{_≡_, refl, ap, ap₂, sym, _∙_, subst}
-use mathlib.Core.Logic.{_⊎_, inl, inr}
-use mathlib.Core.Bool.{Bool, true, false, not, cond, _&&_, true≢false}
+use mathlib.Core.Bool.{Bool, true, false, cond, true≢false}
 use mathlib.Core.List.{List, [], _∷_, _++_, append-nil, append-assoc}
 use native.Mathlib.Omega.{arith}
-use native.Mathlib.Nat.{add-zero}
-use native.Mathlib.Numerals.{add-one}
 use borrow.Author.Tests.{eq-eqb, ne-eqb, eqb-true, le-leb}
-use lib.Dec.{T, eqb, eqb→eq}
-use lib.ListN.{length, length-append, take, drop, getD}
+use lib.Dec.{eqb}
+use lib.ListN.{length, length-append, take, drop}
 use lib.Seq.{take-add, drop-drop, take-length, drop-cons}
-use lib.Ieee.{Float}
-use Rattle.questions.specs.Questions.{ask, firstNo, sizes, groups, exact, numbers, allBelow, mostCount}
+use Rattle.questions.specs.Questions.{firstNo, sizes, groups, exact, numbers, allBelow, mostCount}
 use Rattle.layers.specs.Cell as cell
 use Rattle.layers.specs.Cell.{Cell, pick, offered}
-use Rattle.layers.specs.Layer.{Layer, layer, at, pixelwise, Outcome, answer}
+use Rattle.layers.specs.Layer.{Layer, layer, at, pixelwise, answer}
 use Rattle.layers.specs.Steps.{Spans}
 use Rattle.layers.specs.Calls.{exactLayer, clearCode, clearing, joinCode, joining}
-use Rattle.layers.specs.Laws.Order.{test}
 use Rattle.layers.specs.Laws.Pixels.{pixelwise-same, at-pixelwise, spans-pixelwise}
-use Rattle.meshes.specs.Mesh.{Face, face, facesOf}
-use Rattle.rules.specs.Offers.{Scene, scene, brings, brought}
+use Rattle.meshes.specs.Mesh.{Face, facesOf}
+use Rattle.rules.specs.Offers.{Scene, brings, brought}
 use Rattle.rules.specs.Draw.{painted, drawn}
 use Rattle.rules.specs.Calls.{drawCode, draws}
 use Rattle.theorems.specs.Joins.{won}
 use Rattle.theorems.specs.Faces.{won-runs}
-use Rattle.theorems.specs.Calls.{Store, layerOf, Lent, held, other, contents, returned, LentLayer, lentLayer, whole, Call, clear, draw, join, written, outcomeOf, after, afterAll}
+use Rattle.theorems.specs.Calls.{Store, layerOf, Lent, held, other, contents, returned, lentLayer, whole, Call, clear, draw, join, written, outcomeOf, after, afterAll}
 use Rattle.theorems.specs.Plan as plan
 use Rattle.theorems.specs.Plan.{flat, joined, Stands, nothing, blank, runs, now, run, firstOf, clearOf, drawOf, joinOf, Keeps, over, clears, joins, refused, Accepted}
 

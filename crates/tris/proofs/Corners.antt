@@ -8,10 +8,10 @@ use Rattle.geometry.specs.Arith.{floats}
 use Rattle.geometry.specs.Vector.{Vec3, Projected, Triangle, triangle}
 use Rattle.geometry.specs.Formula.{row, over}
 use Rattle.geometry.specs.Leaf.{entries, project, divided}
-use Rattle.meshes.specs.Mesh.{Face, vertexAt}
+use Rattle.meshes.specs.Mesh.{Face, vertexAt, cornersAt}
 use Rattle.slopes.specs.Formula.{untested}
 use Rattle.edges.specs.Inside.{together, present, projectFace, projects}
-use Rattle.tris.specs.Tri.{cornersAt, TriOf}
+use Rattle.tris.specs.Tri.{TriOf}
 
 -- each of three that are together is there
 together-all : {A : Type 0} (a b c : Option A) → present (together a b c) ≡ true → (present a ≡ true) × (present b ≡ true) × (present c ≡ true)

@@ -7,13 +7,10 @@ use mathlib.Core.List.{List}
 use lib.ListN.{length}
 use lib.Ieee.{Float}
 use Rattle.geometry.specs.Arith.{floats}
-use Rattle.geometry.specs.Vector.{Vec3, Weights, Projected, Triangle, triangle}
+use Rattle.geometry.specs.Vector.{Vec3, Weights, Projected, Triangle}
 use Rattle.geometry.specs.Formula.{pointFrom}
-use Rattle.meshes.specs.Mesh.{Face, faceAt, vertexAt}
+use Rattle.meshes.specs.Mesh.{Face, faceAt, cornersAt}
 use Rattle.edges.specs.Inside.{projectFace, projects}
-
-unfoldable pub cornersAt : List Float → Face → Triangle (Vec3 Float)
-cornersAt xyz f = triangle (vertexAt xyz (f .v0)) (vertexAt xyz (f .v1)) (vertexAt xyz (f .v2))
 
 -- the point that the weights b make of the face's own corners
 unfoldable pub pointOn : Triangle (Vec3 Float) → Weights Float → Vec3 Float

@@ -8,24 +8,25 @@ use native.Mathlib.Omega.{arith}
 use lib.Ieee.{Float, nan}
 use lib.ListN.{length, getD, take, drop}
 use lib.Seq.{ext-getD}
-use borrow.Author.Tests.{ne-eqb}
 use Rattle.geometry.specs.Arith.{floats}
 use Rattle.geometry.specs.Vector.{Vec3, Weights, Triangle}
 use Rattle.geometry.specs.Formula.{blend}
+use Rattle.questions.specs.Laws.{untouched}
+use Rattle.pixels.specs.Laws.{number-below}
 use Rattle.rays.specs.Space.{Ray}
 use Rattle.rays.specs.Plane.{planeWeights}
 use Rattle.rays.specs.Pixel.{rayAt, columnAt, rowAt}
-use Rattle.meshes.specs.Mesh.{Face}
+use Rattle.meshes.specs.Mesh.{Face, cornersAt}
 use Rattle.meshes.specs.View.{named, viewOf}
 use Rattle.meshes.specs.Laws.{entry-read}
 use Rattle.layers.specs.Layer.{tabulate}
-use Rattle.layers.specs.Laws.Pixels.{length-tabulate, getD-tabulate}
-use Rattle.values.specs.Pass.{Image, image, Vertices, valueOf, cornersAt}
+use Rattle.layers.specs.Laws.Pixels.{length-tabulate, getD-tabulate, tabulate-same}
+use Rattle.values.specs.Pass.{Image, image, Vertices, valueOf}
 use Rattle.values.specs.Interpolate.{blendOf, valueAt, valueIn, interpolated, interpolateCode, interpolating, outcome}
 use Rattle.values.specs.Steps.{filled}
 use Rattle.values.specs.Laws.Filled.{filled-lent, filled-more, filled-all, length-filled}
-use Rattle.values.specs.Laws.Ranges.{tabulate-same, row-below}
-use Rattle.values.specs.Laws.Pixels.{ray-of-pixel, value-of-pixel, run-below, pixel-below}
+use Rattle.values.specs.Laws.Ranges.{row-below}
+use Rattle.values.specs.Laws.Pixels.{ray-of-pixel, value-of-pixel, run-below}
 
 as-it-was : (xs : List Float) → xs ≡ tabulate (λ j. getD xs j nan) 0 (length xs)
 as-it-was xs =
@@ -86,7 +87,7 @@ module _ (w h : ℕ) (m : List Float) (s : Vertices) (tri map : List ℕ) (iy ix
     at-sum = add-mul (iy * w) ix (s .channels)
 
     run-fits : (iy * w + ix) * s .channels + s .channels ≤ length old
-    run-fits = omega (arith, run-below (iy * w + ix) (w * h) (s .channels) (pixel-below w h iy ix in-image inside))
+    run-fits = omega (arith, run-below (iy * w + ix) (w * h) (s .channels) (number-below inside in-image))
 
     pub row-more : take ((iy * w + ix) * s .channels) cur ++ (new ++ drop k (drop ((iy * w + ix) * s .channels) cur))
         ≡ filled (valueIn (image w h m) s (viewOf tri map)) (iy * w * s .channels) ((ix + 1) * s .channels) old
@@ -129,7 +130,7 @@ module _ (value : ℕ → Float → Float) (w h c iy : ℕ) (old cur : List Floa
 module _ (g : Image) (s : Vertices) (tri map : List ℕ) (old : List Float) (code : ℕ) where
   pub refused : code ≡ interpolateCode g s tri map old → (code ≡ 0 → ⊥) → outcome code old ≡ interpolating g s tri map old
   unfolding interpolating
-  refused e no0 = rw (← e, ne-eqb code 0 no0)
+  refused e no0 = rw (← e) (ap (outcome code) (untouched code _ no0))
 
   pub done : (new : List Float) → code ≡ interpolateCode g s tri map old → code ≡ 0 → new ≡ interpolated g s (viewOf tri map) old
       → outcome 0 new ≡ interpolating g s tri map old

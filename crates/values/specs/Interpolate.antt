@@ -1,22 +1,20 @@
 -- The whole outcome of `interpolate`.
 use Prim.Native.Nat.{ℕ, _*_, _/_, _%_}
-use mathlib.Core.Bool.{cond}
 use mathlib.Core.Option.{Option, none, some}
 use mathlib.Core.List.{List, _∷_, _++_}
-use lib.Dec.{eqb}
 use lib.Ieee.{Float, nan}
 use lib.ListN.{length, getD}
-use Rattle.questions.specs.Questions.{ask, firstNo}
+use Rattle.questions.specs.Questions.{ask, firstNo, unlessRefused, opening}
 use Rattle.geometry.specs.Arith.{floats}
 use Rattle.geometry.specs.Vector.{Weights}
 use Rattle.geometry.specs.Formula.{blend}
 use Rattle.rays.specs.Space.{Ray}
 use Rattle.rays.specs.Plane.{planeWeights}
-use Rattle.meshes.specs.Mesh.{Face}
+use Rattle.meshes.specs.Mesh.{Face, cornersAt}
 use Rattle.meshes.specs.View.{View, viewOf}
 use Rattle.layers.specs.Layer.{tabulate}
-use Rattle.values.specs.Pass.{Image, Vertices, count, valueOf, cornersAt, rayOf}
-use Rattle.values.specs.Questions.{opening, exactPass, closing}
+use Rattle.values.specs.Pass.{Image, Vertices, count, valueOf, rayOf}
+use Rattle.values.specs.Questions.{exactPass, closing}
 
 -- the Rust's sum at channel j: bc0*v0 + bc1*v1 + bc2*v2
 unfoldable pub blendOf : Vertices → Face → Weights Float → ℕ → Float
@@ -51,7 +49,7 @@ outcome code val = record { code = code; pix2val = val }
 
 -- a refused call leaves the values as they were
 abbrev pub answer : ℕ → List Float → List Float → Outcome
-answer code before after = outcome code (cond (eqb code 0) after before)
+answer code before after = outcome code (unlessRefused code before after)
 
 unfoldable pub interpolating : Image → Vertices → List ℕ → List ℕ → List Float → Outcome
 interpolating g s tri map pix2val = answer (interpolateCode g s tri map pix2val) pix2val (interpolated g s (viewOf tri map) pix2val)

@@ -4,10 +4,8 @@ use mathlib.Core.Option.{Option}
 use mathlib.Core.List.{List}
 use lib.Ieee.{Float, nan}
 use lib.ListN.{length, getD}
-use Rattle.geometry.specs.Vector.{Vec3, Triangle, triangle}
 use Rattle.rays.specs.Space.{Ray}
 use Rattle.rays.specs.Pixel.{pixelRay}
-use Rattle.meshes.specs.Mesh.{Face, vertexAt}
 use Rattle.layers.specs.Layer.{tabulate}
 
 -- width, height, and the matrix `transform_ndc2world`
@@ -34,9 +32,6 @@ count s = length (s .xyz) / 3
 -- channel j of vertex v
 abbrev pub valueOf : Vertices → ℕ → ℕ → Float
 valueOf s v j = getD (s .val) (v * s .channels + j) nan
-
-unfoldable pub cornersAt : List Float → Face → Triangle (Vec3 Float)
-cornersAt xyz f = triangle (vertexAt xyz (f .v0)) (vertexAt xyz (f .v1)) (vertexAt xyz (f .v2))
 
 -- n numbers in a row, from a on: pixels and channels run in rising number
 abbrev pub span : ℕ → ℕ → List ℕ

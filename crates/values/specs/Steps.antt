@@ -4,8 +4,8 @@ use mathlib.Core.Path.{_≡_}
 use mathlib.Core.List.{List, _++_}
 use lib.Ieee.{Float, nan}
 use lib.ListN.{length, getD, take, drop}
-use Rattle.questions.specs.Questions.{empty, mostChannels, mostCount}
-use Rattle.questions.specs.Laws.{Sized}
+use Rattle.questions.specs.Questions.{empty, mostCount}
+use Rattle.questions.specs.Laws.{Sized, Channels}
 use Rattle.meshes.specs.Mesh.{Face}
 use Rattle.layers.specs.Layer.{tabulate}
 use Rattle.values.specs.Pass.{Vertices}
@@ -28,11 +28,6 @@ pub record FaceOf (s : Vertices) (f : Face) : Type 0 where
 -- an entry names a face, or none
 pub record Entry (tri : List ℕ) (entry : ℕ) : Type 0 where
   pub face : (entry ≡ empty → ⊥) → 3 * entry + 2 < length tri
-
--- from 1 to 16
-pub record Channels (c : ℕ) : Type 0 where
-  pub least : 1 ≤ c
-  pub most : c ≤ mostChannels
 
 -- every number in every face is a vertex
 pub record Mesh (s : Vertices) (tri : List ℕ) : Type 0 where

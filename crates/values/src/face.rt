@@ -3,8 +3,7 @@ ghost use mathlib.Core.Path.{_≡_};
 ghost use Prim.Native.Nat.{_+_, _*_, _<_};
 ghost use lib.ListN.{length};
 ghost use Rattle.rays.specs.Answer.{cornersOf};
-ghost use Rattle.meshes.specs.Mesh.{faceAt};
-ghost use Rattle.values.specs.Pass.{cornersAt};
+ghost use Rattle.meshes.specs.Mesh.{faceAt, cornersAt};
 ghost use Rattle.values.specs.Answer.{faceOf};
 use rays::Corners;
 

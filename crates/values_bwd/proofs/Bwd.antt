@@ -7,17 +7,17 @@ use native.Mathlib.Nat.{zero-add, mul-comm}
 use native.Mathlib.Omega.{arith}
 use lib.Ieee.{Float}
 use lib.ListN.{length, getD}
-use borrow.Author.Tests.{ne-eqb}
+use Rattle.questions.specs.Laws.{untouched}
 use Rattle.geometry.specs.Arith.{floats}
 use Rattle.geometry.specs.Vector.{Vec3, Weights, Triangle}
 use Rattle.rays.specs.Space.{Ray}
 use Rattle.rays.specs.Backward.{Gradients, planeBackward}
 use Rattle.rays.specs.Pixel.{rayAt, columnAt, rowAt}
-use Rattle.meshes.specs.Mesh.{Face}
+use Rattle.meshes.specs.Mesh.{Face, cornersAt}
 use Rattle.meshes.specs.View.{View, named, viewOf}
 use Rattle.meshes.specs.Laws.{entry-read}
 use Rattle.meshes.specs.Sums.{summed}
-use Rattle.values.specs.Pass.{Image, image, Vertices, cornersAt}
+use Rattle.values.specs.Pass.{Image, image, Vertices}
 use Rattle.values.specs.Laws.Pixels.{ray-of-pixel}
 use Rattle.values_bwd.specs.Additions.{incoming, backward, gradientsAt, toXyz, toVal, pixelXyz, pixelVal}
 use Rattle.values_bwd.specs.Bwd.{Sums, sums, incomingAt, xyzAt, valAt, summedOver, bwdCode, outcome, interpolatingBwd}
@@ -78,7 +78,7 @@ module _ (g : Image) (s : Vertices) (v : View) (dldw : List Float) (w h iy : ℕ
 module _ (g : Image) (s : Vertices) (tri map : List ℕ) (dldw : List Float) (old : Sums) (code : ℕ) where
   pub refused : code ≡ bwdCode g s tri map dldw old → (code ≡ 0 → ⊥) → outcome code (old .xyz) (old .val) ≡ interpolatingBwd g s tri map dldw old
   unfolding interpolatingBwd
-  refused e no0 = rw (← e, ne-eqb code 0 no0)
+  refused e no0 = rw (← e) (ap (λ (k : Sums). outcome code (k .xyz) (k .val)) (untouched code _ no0))
 
   pub done : (new : Sums) → code ≡ bwdCode g s tri map dldw old → code ≡ 0 → new ≡ summedOver g s (viewOf tri map) dldw 0 (g .w * g .h) old
       → outcome 0 (new .xyz) (new .val) ≡ interpolatingBwd g s tri map dldw old

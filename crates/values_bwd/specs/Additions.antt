@@ -7,9 +7,9 @@ use Rattle.geometry.specs.Arith.{floats}
 use Rattle.geometry.specs.Vector.{Vec3, Weights, weights, Triangle}
 use Rattle.rays.specs.Space.{Ray}
 use Rattle.rays.specs.Backward.{Gradients, planeBackward}
-use Rattle.meshes.specs.Mesh.{Face}
+use Rattle.meshes.specs.Mesh.{Face, cornersAt}
 use Rattle.meshes.specs.Sums.{Addition, addition}
-use Rattle.values.specs.Pass.{Vertices, valueOf, cornersAt, span}
+use Rattle.values.specs.Pass.{Vertices, valueOf, span}
 use Rattle.values_bwd.specs.Gather.{gathered}
 
 -- the gradients of the weights: the sums of corner value times incoming gradient, channels in order

@@ -1,15 +1,14 @@
 -- The whole outcome of `interpolate_bwd`.
 use Prim.Native.Nat.{ℕ, _+_, _*_}
-use mathlib.Core.Bool.{Bool, _&&_, cond}
+use mathlib.Core.Bool.{Bool, _&&_}
 use mathlib.Core.List.{List, _∷_, _++_, flatMap}
-use lib.Dec.{eqb}
 use lib.Ieee.{Float, nan}
 use lib.ListN.{length, getD}
-use Rattle.questions.specs.Questions.{ask, firstNo, exact}
+use Rattle.questions.specs.Questions.{ask, firstNo, unlessRefused, exact, opening}
 use Rattle.meshes.specs.View.{View, viewOf}
 use Rattle.meshes.specs.Sums.{Addition, summed}
 use Rattle.values.specs.Pass.{Image, Vertices, count, span, rayOf}
-use Rattle.values.specs.Questions.{opening, exactPass, closing}
+use Rattle.values.specs.Questions.{exactPass, closing}
 use Rattle.values_bwd.specs.Additions.{pixelXyz, pixelVal}
 
 -- the incoming gradient of channel j at the pixel whose channels begin at `at`
@@ -56,7 +55,7 @@ outcome code xyz val = record { code = code; after = sums xyz val }
 
 -- a refused call leaves the accumulators as they were
 abbrev pub answer : ℕ → Sums → Sums → Outcome
-answer code before after = record { code = code; after = cond (eqb code 0) after before }
+answer code before after = record { code = code; after = unlessRefused code before after }
 
 unfoldable pub interpolatingBwd : Image → Vertices → List ℕ → List ℕ → List Float → Sums → Outcome
 interpolatingBwd g s tri map dldw old =

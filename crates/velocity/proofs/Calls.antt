@@ -1,16 +1,12 @@
 -- From what the steps of `interpolate_from_edges` promise to the call's whole outcome.
-use Prim.Native.Nat.{ℕ, _*_, _/_, _%_}
-use mathlib.Core.Path.{_≡_, sym, _∙_, ap}
-use mathlib.Core.Bool.{true, _&&_}
+use Prim.Native.Nat.{ℕ, _*_, _/_}
+use mathlib.Core.Path.{_≡_, ap}
+use mathlib.Core.Bool.{_&&_}
 use mathlib.Core.List.{List, []}
-use native.Mathlib.Nat.{div-add-mod}
-use native.Mathlib.Omega.{arith}
-use borrow.Author.Tests.{eq-eqb, ne-eqb, eqb-true}
-use lib.Dec.{eqb}
 use lib.Ieee.{Float}
 use lib.ListN.{length}
 use Rattle.questions.specs.Questions.{sizes, groups, exact}
-use Rattle.questions.specs.Laws.{Sized, sized, both, exactly, accepted}
+use Rattle.questions.specs.Laws.{Sized, sized, grouped, whole, both, exactly, accepted, untouched}
 use Rattle.layers.specs.Layer.{tabulate}
 use Rattle.pixels.specs.Edge.{hedge, vedge, edgeCount}
 use Rattle.velocity.specs.Grid.{velocityAt}
@@ -26,17 +22,16 @@ pub record Ready (w h : ℕ) (hs vs xy velo : List Float) : Type 0 where
 
 module _ (w h : ℕ) (hs vs xy velo : List Float) where
   pub velocity-accepted : velocityCode w h hs vs xy velo ≡ 0 → Ready w h hs vs xy velo
-  unfolding velocityCode groups
+  unfolding velocityCode
   velocity-accepted e =
       let a = accepted 0 (sizes 2 w h) _ e in
       let b = accepted 2 (groups 2 (length xy)) _ (a .1) in
       let c = accepted 3 (exact (edgeCount hedge w h) (length hs) && (exact (edgeCount vedge w h) (length vs) && exact (length xy) (length velo))) [] (b .1) in
       let d = both (exact (edgeCount hedge w h) (length hs)) _ (c .0) in
       let f = both (exact (edgeCount vedge w h) (length vs)) _ (d .1) in
-      let z : length xy % 2 ≡ 0 = eqb-true _ _ (both (eqb (length xy % 2) 0) _ (b .0) .0) in
       record {
         size = sized 2 w h (a .0);
-        pairs = omega (arith, div-add-mod (length xy) 2);
+        pairs = whole 2 (length xy) (grouped 2 (length xy) (b .0));
         velo-length = exactly _ _ (f .1);
         hedges = exactly _ _ (d .0);
         vedges = exactly _ _ (f .0);
@@ -45,7 +40,7 @@ module _ (w h : ℕ) (hs vs xy velo : List Float) where
   module _ (code : ℕ) (e : code ≡ velocityCode w h hs vs xy velo) where
     pub velocity-refused : (code ≡ 0 → ⊥) → outcome code velo ≡ velocities w h hs vs xy velo
     unfolding velocities answer
-    velocity-refused no0 = rw (← e, ne-eqb code 0 no0)
+    velocity-refused no0 = rw (← e) (ap (outcome code) (untouched code _ no0))
 
     pub velocity-done : (velo' : List Float) → code ≡ 0 → velo' ≡ tabulate (velocityAt w h hs vs xy) 0 (length xy) → outcome 0 velo' ≡ velocities w h hs vs xy velo
     unfolding velocities answer

@@ -1,11 +1,11 @@
 -- The cell of a coordinate, and what the code's comparisons and its truncation say of it.
-use Prim.Native.Nat.{ℕ, _+_, _*_, _/_, _^_, _-_, min, _≤_, _<_}
-use mathlib.Core.Path.{_≡_, refl, sym, _∙_, ap}
-use mathlib.Core.Bool.{Bool, true, false, cond, false≢true}
-use native.Mathlib.Nat.{min-eq-left, min-eq-right, min-le-right, zero-min, le-div-iff-mul-le}
+use Prim.Native.Nat.{ℕ, _+_, _*_, min, _≤_}
+use mathlib.Core.Path.{_≡_, refl, sym, _∙_}
+use mathlib.Core.Bool.{Bool, true, false, false≢true}
+use native.Mathlib.Nat.{min-eq-right, min-le-right, zero-min, le-div-iff-mul-le}
 use native.Mathlib.Omega.{arith}
-use borrow.Author.Tests.{ltb-true, ltb-false, lt-ltb}
-use lib.Dec.{T, ltb}
+use borrow.Author.Tests.{ltb-false, lt-ltb}
+use lib.Dec.{T}
 use lib.IntN.{pos}
 use lib.Ieee.{Float, nan, inf, fin, up, down, lt, toUnsigned}
 use lib.Ieee.Fits.{down-pos}

@@ -1,7 +1,6 @@
 -- What stands at the two places of a vertex.
-use Prim.Native.Nat.{ℕ, zero, suc, _+_, _*_, _/_, _%_, _<_, _≤_}
-use mathlib.Core.Path.{_≡_, refl, sym, _∙_, ap, ap₂}
-use mathlib.Core.Bool.{cond, true, false}
+use Prim.Native.Nat.{ℕ, zero, suc, _+_, _/_, _%_, _<_}
+use mathlib.Core.Path.{_≡_, refl, sym, ap, ap₂}
 use mathlib.Core.List.{List}
 use native.Mathlib.Omega.{arith}
 use borrow.Author.Tests.{eq-eqb, ne-eqb}
@@ -9,7 +8,7 @@ use lib.Ieee.{Float, nan}
 use lib.ListN.{getD, set, length}
 use Rattle.layers.specs.Laws.Pixels.{stored, stored-more}
 use Rattle.geometry.specs.Arith.{floats}
-use Rattle.geometry.specs.Vector.{Vec2, vec2}
+use Rattle.geometry.specs.Vector.{vec2}
 use Rattle.pixels.specs.Edge.{hedge, vedge}
 use Rattle.velocity.specs.Grid.{offset, sample, pointAt, velocityAt}
 

@@ -1,11 +1,10 @@
 -- The whole outcome of `interpolate_from_edges`.
 use Prim.Native.Nat.{ℕ}
-use mathlib.Core.Bool.{Bool, _&&_, cond}
+use mathlib.Core.Bool.{_&&_}
 use mathlib.Core.List.{List, [], _∷_}
-use lib.Dec.{eqb}
 use lib.ListN.{length}
 use lib.Ieee.{Float}
-use Rattle.questions.specs.Questions.{ask, firstNo, sizes, groups, exact}
+use Rattle.questions.specs.Questions.{ask, firstNo, unlessRefused, sizes, groups, exact}
 use Rattle.layers.specs.Layer.{tabulate}
 use Rattle.pixels.specs.Edge.{hedge, vedge, edgeCount}
 use Rattle.velocity.specs.Grid.{velocityAt}
@@ -27,7 +26,7 @@ outcome code velo = record { code = code; velo = velo }
 
 -- a refused call leaves it as it was
 unfoldable pub answer : ℕ → List Float → List Float → Outcome
-answer code before after = outcome code (cond (eqb code 0) after before)
+answer code before after = outcome code (unlessRefused code before after)
 
 unfoldable pub velocities : ℕ → ℕ → List Float → List Float → List Float → List Float → Outcome
 velocities w h hedge2vy vedge2vx xy velo =

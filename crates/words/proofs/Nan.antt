@@ -1,9 +1,9 @@
 -- Which patterns and which floats are a NaN's, by the tests that the code makes, over either format. Assumes nothing.
 use mathlib.Core.Path.{_≡_, refl, sym, ap, subst, _∙_}
-use mathlib.Core.Bool.{Bool, true, false, not, cond}
+use mathlib.Core.Bool.{Bool, true, false, not}
 use Prim.Native.Nat.{ℕ, _+_, _*_, _/_, _%_, _<_, _≤_}
-use lib.Dec.{T, eqb, eqb-refl}
-use lib.Ieee.{Float, nan, inf, fin, Format, isNan, ne, nanBits, ofBits, toBits, ones, hid, top, up, down}
+use lib.Dec.{T}
+use lib.Ieee.{Float, nan, inf, fin, Format, isNan, ne, nanBits, ofBits, toBits, ones, hid, top}
 use lib.Ieee.Bits.{nanBits-is, nanBits-above}
 use lib.Ieee.Compare.{differs-from-itself}
 use borrow.Author.Tests.{lt-ltb, le-ltb}

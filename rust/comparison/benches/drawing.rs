@@ -14,16 +14,14 @@ fn camera() -> [f32; 16] {
     m
 }
 
-/// `count` faces of about `extent` pixels a side, somewhere on the image.
-fn mesh(count: usize, side: usize, extent: (f32, f32)) -> Scene {
+/// A scene of `side` × `side` pixels with `count` faces, each with corners somewhere on the image plane, which spans −1 to 1.
+fn scene(side: usize, count: usize, corners: impl Fn(&mut Random) -> [[f32; 2]; 3]) -> Scene {
     let random = &mut Random::new(count as u64);
     let mut vtx2xyz = Vec::new();
     for _ in 0..count {
-        let centre = [random.between(-1.0, 1.0), random.between(-1.0, 1.0)];
-        let reach = random.between(extent.0, extent.1) / side as f32;
-        for _ in 0..3 {
+        for corner in corners(random) {
             let distance = random.between(1.0, 4.0);
-            let [x, y] = centre.map(|c| (c + random.between(-reach, reach)) * distance);
+            let [x, y] = corner.map(|c| c * distance);
             vtx2xyz.extend([x, y, -distance]);
         }
     }
@@ -37,6 +35,47 @@ fn mesh(count: usize, side: usize, extent: (f32, f32)) -> Scene {
         transform_world2ndc: camera(),
         first: 0,
     }
+}
+
+/// `count` faces of about `extent` pixels a side, somewhere on the image or, moved by `away`, beside it.
+fn mesh(count: usize, side: usize, extent: (f32, f32), away: f32) -> Scene {
+    scene(side, count, |random| {
+        let centre = [away, 0.0].map(|c| c + random.between(-1.0, 1.0));
+        let reach = random.between(extent.0, extent.1) / side as f32;
+        [(); 3].map(|()| centre.map(|c| c + random.between(-reach, reach)))
+    })
+}
+
+/// `count` faces right across the image and a few pixels wide.
+fn slivers(count: usize, side: usize) -> Scene {
+    scene(side, count, |random| {
+        let from = [random.between(-1.0, 1.0), random.between(-1.0, 1.0)];
+        let to = [random.between(-1.0, 1.0), random.between(-1.0, 1.0)];
+        let width = 6.0 / side as f32;
+        let beside = to.map(|c| c + random.between(-width, width));
+        [from, to, beside]
+    })
+}
+
+/// A closed mesh of 2 · `around` · `down` faces, seen from outside, `zoom` times as large as it would be.
+fn ball(around: usize, down: usize, side: usize, zoom: f32) -> Scene {
+    let mut scene = scene(side, 0, |_| unreachable!("it has faces of its own"));
+    (scene.transform_world2ndc[0], scene.transform_world2ndc[5]) = (zoom, zoom);
+    for j in 0..=down {
+        let (sin, cos) = (std::f32::consts::PI * j as f32 / down as f32).sin_cos();
+        for i in 0..around {
+            let (x, y) = (std::f32::consts::TAU * i as f32 / around as f32).sin_cos();
+            scene.vtx2xyz.extend([sin * x, cos, sin * y - 2.0]);
+        }
+    }
+    for (j, i) in (0..down).flat_map(|j| (0..around).map(move |i| (j, i))) {
+        let next = (i + 1) % around;
+        let corner = |j: usize, i: usize| (j * around + i) as u32;
+        let (a, b) = (corner(j, i), corner(j, next));
+        let (c, d) = (corner(j + 1, i), corner(j + 1, next));
+        scene.tri2vtx.extend([a, c, b, b, c, d]);
+    }
+    scene
 }
 
 fn ours(scene: &mut Scene) {
@@ -87,8 +126,18 @@ fn draw(name: &str, scene: &Scene) {
 }
 
 fn main() {
-    let small = mesh(50_000, 512, (3.0, 20.0));
+    let small = mesh(50_000, 512, (3.0, 20.0), 0.0);
     draw("50,000 small faces at 512 × 512", &small);
-    let large = mesh(100, 2048, (800.0, 2048.0));
+    let closed = ball(250, 100, 512, 1.0);
+    draw("a ball of 50,000 faces at 512 × 512", &closed);
+    let large = mesh(100, 2048, (800.0, 2048.0), 0.0);
     draw("100 large faces at 2,048 × 2,048", &large);
+    let thin = slivers(1_000, 1024);
+    draw("1,000 slivers at 1,024 × 1,024", &thin);
+    let tiny = mesh(200_000, 2048, (1.0, 2.0), 0.0);
+    draw("200,000 tiny faces at 2,048 × 2,048", &tiny);
+    let beside = mesh(200_000, 512, (3.0, 20.0), 2.5);
+    draw("200,000 faces beside the image", &beside);
+    let near = ball(500, 200, 512, 20.0);
+    draw("200,000 faces, most off the image", &near);
 }

@@ -7,6 +7,7 @@ include!(concat!(env!("OUT_DIR"), "/listed.rs"));
 #[cfg(listed)]
 pub mod reference;
 
+pub mod crossing;
 pub mod expected;
 pub mod pass;
 pub mod random;

@@ -1,7 +1,7 @@
 //! Arguments of the passes over a map: meshes with maps that are drawings and maps that are not, one to sixteen
 //! channels, projections and weights without an answer, buffers of a wrong length.
 use crate::random::Random;
-use crate::scene::{accepted, Scene, EMPTY};
+use crate::scene::{accepted, crowded, Scene, EMPTY};
 
 /// All that the passes over values and over edges take.
 #[derive(Clone, Debug)]
@@ -32,14 +32,27 @@ pub fn pass(seed: u64) -> Pass {
     if random.percent(25) {
         cover(random, &mut scene);
     }
-    let mut made = beside_the_map(random, &scene);
-    made.pix2tri = map(random, &scene);
-    (made.tri2vtx, made.vtx2xyz) = (scene.tri2vtx, scene.vtx2xyz);
+    let mut made = over(random, scene);
     if random.percent(20) {
         for _ in 0..random.within(1, 2) {
             spoil(random, &mut made);
         }
     }
+    made
+}
+
+/// Arguments over a larger image and some hundred faces, for each seed.
+pub fn crowded_pass(seed: u64) -> Pass {
+    let random = &mut Random::new(seed);
+    let scene = crowded(random);
+    over(random, scene)
+}
+
+/// The scene's mesh, a map of it, and the rest.
+fn over(random: &mut Random, scene: Scene) -> Pass {
+    let mut made = beside_the_map(random, &scene);
+    made.pix2tri = map(random, &scene);
+    (made.tri2vtx, made.vtx2xyz) = (scene.tri2vtx, scene.vtx2xyz);
     made
 }
 

@@ -1,9 +1,11 @@
-//! Meshes to draw, random and hostile: both signs of m[11], orthographic, clipped, degenerate, repeated, with
+//! Meshes to draw, random and hostile: both signs of `m[11]`, orthographic, clipped, degenerate, repeated, with
 //! ties, with NaNs, infinities, subnormals and −0, on images from 1 × 1, and with arguments to refuse.
 use crate::random::Random;
 
 pub const EMPTY: u32 = u32::MAX;
 pub const MOST: u32 = 1_048_576;
+/// Depths that faces share.
+const DEPTHS: [f32; 4] = [0.25, 0.5, -0.5, 0.0];
 
 /// The arguments of one drawing.
 #[derive(Clone, Debug)]
@@ -32,15 +34,52 @@ pub fn scene(seed: u64) -> Scene {
 
 /// A scene that every question is answered yes of.
 pub fn accepted(random: &mut Random) -> Scene {
-    let (img_w, img_h) = size(random);
-    let depths = [0.25, 0.5, -0.5, 0.0];
+    let size = size(random);
     let vertices = random.within(0, 10);
     let style = random.below(6);
-    let vtx2xyz = (0..vertices)
-        .flat_map(|_| vertex(random, style, (img_w, img_h), &depths))
-        .collect();
-    let tri2vtx = faces(random, vertices);
-    let (pix2tri, pix2depth) = layer(random, img_w * img_h, &depths);
+    let vtx2xyz = vertices_of(random, vertices, style, size);
+    let count = if vertices == 0 {
+        0
+    } else {
+        random.within(0, 10)
+    };
+    let tri2vtx = faces(random, vertices, count);
+    finished(random, size, tri2vtx, vtx2xyz)
+}
+
+/// An accepted scene of some hundred faces on a larger image: sheets of neighbours one behind the other, most of their
+/// faces either seen or hidden whole, or faces between any vertices of a style.
+pub fn crowded(random: &mut Random) -> Scene {
+    let size = (random.within(16, 64), random.within(16, 64));
+    if random.percent(60) {
+        let (tri2vtx, vtx2xyz) = sheets(random);
+        let mut made = finished(random, size, tri2vtx, vtx2xyz);
+        if random.percent(70) {
+            made.transform_world2ndc = facing(random);
+        }
+        return made;
+    }
+    let vertices = random.within(30, 200);
+    let style = random.below(6);
+    let vtx2xyz = vertices_of(random, vertices, style, size);
+    let count = random.within(50, 250);
+    let tri2vtx = faces(random, vertices, count);
+    finished(random, size, tri2vtx, vtx2xyz)
+}
+
+fn vertices_of(random: &mut Random, count: usize, style: usize, size: (usize, usize)) -> Vec<f32> {
+    let place = |_| vertex(random, style, size, &DEPTHS);
+    (0..count).flat_map(place).collect()
+}
+
+/// The rest of a scene: what the layer holds, the first number, the matrix.
+fn finished(
+    random: &mut Random,
+    (img_w, img_h): (usize, usize),
+    tri2vtx: Vec<u32>,
+    vtx2xyz: Vec<f32>,
+) -> Scene {
+    let (pix2tri, pix2depth) = layer(random, img_w * img_h, &DEPTHS);
     let first = first_number(random, tri2vtx.len() / 3);
     Scene {
         pix2tri,
@@ -52,6 +91,46 @@ pub fn accepted(random: &mut Random) -> Scene {
         transform_world2ndc: matrix(random),
         first,
     }
+}
+
+/// Two or three sheets, each a square of cells with two faces a cell, crossing one another here and there.
+fn sheets(random: &mut Random) -> (Vec<u32>, Vec<f32>) {
+    let (mut tri2vtx, mut vtx2xyz) = (Vec::new(), Vec::new());
+    for sheet in 0..random.within(2, 3) {
+        let cells = random.within(3, 9);
+        let from = (vtx2xyz.len() / 3) as u32;
+        let rough = random.between(0.0, 0.3);
+        for at in 0..(cells + 1) * (cells + 1) {
+            let (column, row) = (at % (cells + 1), at / (cells + 1));
+            let place = |k: usize| 2.4 * k as f32 / cells as f32 - 1.2;
+            let mut near = |x: f32| x + random.between(-rough, rough);
+            let z = near(-0.9 - 0.2 * sheet as f32);
+            vtx2xyz.extend([near(place(column)), near(place(row)), z]);
+        }
+        for at in 0..cells * cells {
+            let corner = from + (at / cells * (cells + 1) + at % cells) as u32;
+            let above = corner + cells as u32 + 1;
+            tri2vtx.extend([corner, corner + 1, above, above, corner + 1, above + 1]);
+        }
+    }
+    (tri2vtx, vtx2xyz)
+}
+
+/// A matrix under which the sheets are seen: orthographic, or a camera at the origin that looks along −z, the near
+/// plane before or among them.
+fn facing(random: &mut Random) -> [f32; 16] {
+    let mut m: [f32; 16] = std::array::from_fn(|i| if i % 5 == 0 { 0.8 } else { 0.0 });
+    let sign = random.one_of(&[0.0, -1.0, 1.0]);
+    if sign == 0.0 {
+        m[15] = 1.0;
+        return m;
+    }
+    let near = random.between(0.3, 1.0);
+    let far = near + random.between(1.0, 4.0);
+    m[10] = -(far + near) / (far - near);
+    m[14] = -2.0 * far * near / (far - near);
+    (m[0], m[5], m[11], m[15]) = (-sign, -sign, sign, 0.0);
+    m
 }
 
 fn size(random: &mut Random) -> (usize, usize) {
@@ -96,12 +175,9 @@ fn vertex(random: &mut Random, style: usize, (w, h): (usize, usize), depths: &[f
     }
 }
 
-fn faces(random: &mut Random, vertices: usize) -> Vec<u32> {
+fn faces(random: &mut Random, vertices: usize, count: usize) -> Vec<u32> {
     let mut list: Vec<u32> = Vec::new();
-    if vertices == 0 {
-        return list;
-    }
-    for _ in 0..random.within(0, 10) {
+    for _ in 0..count {
         let repeat = list.len() >= 3 && random.percent(15);
         let face = if repeat {
             let at = random.below(list.len() / 3) * 3;

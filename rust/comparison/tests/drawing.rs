@@ -1,10 +1,17 @@
 //! The drawing call: refusals, and every number of the lent buffers, beside the questions of 01 and, where its
 //! source is found, the listed Rust, bit for bit on 200,000 scenes.
 use comparison::expected::draw_code;
+#[cfg(listed)]
+use comparison::random::Random;
+#[cfg(listed)]
+use comparison::scene::crowded;
 use comparison::scene::{scene, Scene, MOST};
 use paqelzim::pix2tri_by_rasterization;
 
 const SCENES: u64 = 200_000;
+/// Scenes of larger images and some hundred faces.
+#[cfg(listed)]
+const CROWDED: u64 = 2_000;
 /// Places before and after each lent buffer, which no call may touch.
 const MARGIN: usize = 5;
 
@@ -74,29 +81,31 @@ fn every_refusal_is_the_first_no_and_writes_nothing() {
     }
 }
 
+/// Beside the listed Rust, and once more over the result: equal depths are never written.
+#[cfg(listed)]
+fn is_drawn_as_listed(scene: &Scene) {
+    let (numbers, depths) = comparison::reference::drawn(scene);
+    let (code, our_numbers, our_depths) = drawn(scene);
+    assert_eq!(code, 0);
+    assert_eq!(our_depths, bits(&depths), "depths of {scene:?}");
+    assert_eq!(our_numbers, numbers, "map of {scene:?}");
+    let again = Scene {
+        pix2tri: numbers.clone(),
+        pix2depth: depths.clone(),
+        first: 0,
+        ..scene.clone()
+    };
+    let twice = drawn(&again);
+    assert_eq!(twice, (0, numbers, bits(&depths)), "twice: {scene:?}");
+}
+
 #[cfg(listed)]
 #[test]
 fn every_scene_is_drawn_as_the_listed_rust_draws_it() {
     let mut ways = std::collections::BTreeMap::new();
     let mut accepted = 0;
     for scene in (0..SCENES).map(scene).filter(|scene| draw_code(scene) == 0) {
-        let (numbers, depths) = comparison::reference::drawn(&scene);
-        let (code, our_numbers, our_depths) = drawn(&scene);
-        assert_eq!(code, 0);
-        assert_eq!(our_depths, bits(&depths), "depths of {scene:?}");
-        assert_eq!(our_numbers, numbers, "map of {scene:?}");
-        // and once more over the result: equal depths are never written
-        let again = Scene {
-            pix2tri: numbers.clone(),
-            pix2depth: depths.clone(),
-            first: 0,
-            ..scene.clone()
-        };
-        assert_eq!(
-            drawn(&again),
-            (0, numbers, bits(&depths)),
-            "drawn twice: {scene:?}"
-        );
+        is_drawn_as_listed(&scene);
         for way in comparison::reference::ways(&scene) {
             *ways.entry(way).or_insert(0) += 1;
         }
@@ -118,6 +127,14 @@ fn every_scene_is_drawn_as_the_listed_rust_draws_it() {
     }
     // a NaN among the scores sends a face with no valid corner into two pieces
     assert!(corners.iter().any(|&c| ways.contains_key(&Two(c, 0))));
+}
+
+#[cfg(listed)]
+#[test]
+fn so_are_crowded_scenes() {
+    for seed in 0..CROWDED {
+        is_drawn_as_listed(&crowded(&mut Random::new(seed)));
+    }
 }
 
 #[test]

@@ -2,17 +2,45 @@
 //! listed Rust where its source is found. Bits are compared; a computed NaN is a NaN, and a place that nothing
 //! reaches keeps its bits, payload included.
 use comparison::expected::{
-    edge_gradient_and_type_code, interpolate_bwd_code, interpolate_code,
+    bwd_code_to_8, edge_gradient_and_type_code, interpolate_bwd_code, interpolate_code,
     interpolate_from_edges_code,
 };
-use comparison::pass::{pass, velocities, Pass, Velocities};
-use comparison::scene::EMPTY;
+use comparison::pass::{crowded_pass, pass, velocities, Pass, Velocities};
+use comparison::scene::{EMPTY, MOST};
 use paqelzim::Refusal;
 
 const PASSES: u64 = 30_000;
+const CROWDED: u64 = 2_000;
+
+/// The arguments of every test here: small images with all that can be wrong, and larger ones.
+fn passes() -> impl Iterator<Item = Pass> {
+    (0..PASSES).map(pass).chain((0..CROWDED).map(crowded_pass))
+}
 
 fn code(answer: Result<(), Refusal>) -> u32 {
     answer.map_or_else(|refusal| refusal.code(), |()| 0)
+}
+
+/// How often each code was answered. Where it is a refusal, nothing was written: each test asserts that too.
+#[derive(Default)]
+struct Seen([usize; 10]);
+
+impl Seen {
+    fn add(&mut self, code: u32) {
+        self.0[code as usize] += 1;
+    }
+
+    /// Every code that the call can answer was seen, and no other.
+    fn is_all_of(&self, codes: &[usize]) {
+        println!("codes 0 to 9: {:?}", self.0);
+        for (code, &times) in self.0.iter().enumerate() {
+            if codes.contains(&code) {
+                assert!(times > 50, "{code} was hardly answered: {:?}", self.0);
+            } else {
+                assert_eq!(times, 0, "{code} is not an answer of this call");
+            }
+        }
+    }
 }
 
 fn bits(floats: &[f32]) -> Vec<u32> {
@@ -67,9 +95,11 @@ fn interpolate(pass: &Pass) -> (u32, Vec<f32>) {
 
 #[test]
 fn values() {
-    for pass in (0..PASSES).map(pass) {
+    let mut seen = Seen::default();
+    for pass in passes() {
         let (code, pix2val) = interpolate(&pass);
         assert_eq!(code, interpolate_code(&pass), "{pass:?}");
+        seen.add(code);
         if code != 0 {
             assert_eq!(bits(&pix2val), bits(&pass.pix2val), "{pass:?}");
             continue;
@@ -82,6 +112,7 @@ fn values() {
             |at| pass.pix2tri[at / pass.num_vdim] != EMPTY,
         );
     }
+    seen.is_all_of(&[0, 1, 2, 3, 4, 6, 7, 8]);
 }
 
 fn interpolate_bwd(pass: &Pass) -> (u32, [Vec<f32>; 2]) {
@@ -105,9 +136,11 @@ fn interpolate_bwd(pass: &Pass) -> (u32, [Vec<f32>; 2]) {
 
 #[test]
 fn values_backward() {
-    for pass in (0..PASSES).map(pass) {
+    let mut seen = Seen::default();
+    for pass in passes() {
         let (code, [xyz, val]) = interpolate_bwd(&pass);
         assert_eq!(code, interpolate_bwd_code(&pass), "{pass:?}");
+        seen.add(code);
         if code != 0 {
             assert_eq!(bits(&xyz), bits(&pass.dldw_vtx2xyz), "{pass:?}");
             assert_eq!(bits(&val), bits(&pass.dldw_vtx2val), "{pass:?}");
@@ -124,6 +157,7 @@ fn values_backward() {
             });
         }
     }
+    seen.is_all_of(&[0, 1, 2, 3, 4, 6, 7, 8]);
 }
 
 fn edges(pass: &Pass) -> (u32, Pass) {
@@ -148,9 +182,11 @@ fn edges(pass: &Pass) -> (u32, Pass) {
 
 #[test]
 fn edge_types() {
-    for pass in (0..PASSES).map(pass) {
+    let mut seen = Seen::default();
+    for pass in passes() {
         let (code, left) = edges(&pass);
         assert_eq!(code, edge_gradient_and_type_code(&pass), "{pass:?}");
+        seen.add(code);
         if code != 0 {
             assert_eq!(left.hedge2type, pass.hedge2type, "{pass:?}");
             assert_eq!(left.vedge2type, pass.vedge2type, "{pass:?}");
@@ -167,53 +203,90 @@ fn edge_types() {
             same(&left.vedge2dldr, &dldrs[1], &pass.vedge2dldr, |_| true);
         }
     }
+    seen.is_all_of(&[0, 1, 2, 3, 4, 6, 7, 8]);
 }
 
-/// Beside the listed file with the one line changed; question 9 is asked of that file itself. The unchanged file gives
-/// other bits in some scenes in which faces cross.
+fn bwd(pass: &Pass) -> (u32, Vec<f32>) {
+    let mut dldw_vtx2xyz = pass.dldw_vtx2xyz.clone();
+    let answer = paqelzim::bwd(
+        &pass.tri2vtx,
+        &pass.vtx2xyz,
+        &mut dldw_vtx2xyz,
+        &pass.transform_world2pix,
+        pass.img_w,
+        pass.img_h,
+        &pass.pix2tri,
+        pass.num_vdim,
+        &pass.pix2val,
+        &pass.dldw_pix2val,
+    );
+    (code(answer), dldw_vtx2xyz)
+}
+
+/// Where the questions to 8 are answered yes, the code is 0 or 9, and `edges_backward` asks which.
+#[test]
+fn edges_backward_refused() {
+    let mut seen = Seen::default();
+    for pass in passes() {
+        let (code, xyz) = bwd(&pass);
+        let to_8 = bwd_code_to_8(&pass);
+        assert_eq!(if code == 9 { 0 } else { code }, to_8, "{pass:?}");
+        if code != 0 {
+            assert_eq!(bits(&xyz), bits(&pass.dldw_vtx2xyz), "{pass:?}");
+        }
+        seen.add(code);
+    }
+    seen.is_all_of(&[0, 1, 2, 3, 4, 6, 7, 8, 9]);
+}
+
+/// Beside the listed file with the one line changed; question 9 is asked of that file itself, and is no exactly where it
+/// would panic.
 #[cfg(listed)]
 #[test]
 fn edges_backward() {
-    let (mut accepted, mut unlike) = (0, 0);
-    for pass in (0..PASSES).map(pass) {
-        let mut dldw_vtx2xyz = pass.dldw_vtx2xyz.clone();
-        let answer = paqelzim::bwd(
-            &pass.tri2vtx,
-            &pass.vtx2xyz,
-            &mut dldw_vtx2xyz,
-            &pass.transform_world2pix,
-            pass.img_w,
-            pass.img_h,
-            &pass.pix2tri,
-            pass.num_vdim,
-            &pass.pix2val,
-            &pass.dldw_pix2val,
-        );
-        let to_8 = comparison::expected::bwd_code_to_8(&pass);
-        let wanted = if to_8 == 0 {
-            comparison::reference::bwd(&pass)
-        } else {
-            None
+    let (mut accepted, mut ninth) = (0, 0);
+    for pass in passes().filter(|p| bwd_code_to_8(p) == 0) {
+        let (code, xyz) = bwd(&pass);
+        let Some(wanted) = comparison::reference::bwd(&pass) else {
+            assert_eq!(code, 9, "{pass:?}");
+            ninth += 1;
+            continue;
         };
-        match wanted {
-            Some(wanted) => {
-                assert_eq!(code(answer), 0, "{pass:?}");
-                let shown = shown(&pass);
-                same(&dldw_vtx2xyz, &wanted, &pass.dldw_vtx2xyz, |at| {
-                    shown[at / 3]
-                });
-                let listed = comparison::reference::bwd_as_listed(&pass).expect("it runs too");
-                accepted += 1;
-                unlike += usize::from(bits(&wanted) != bits(&listed));
-            }
-            None => {
-                assert_eq!(code(answer), if to_8 == 0 { 9 } else { to_8 }, "{pass:?}");
-                assert_eq!(bits(&dldw_vtx2xyz), bits(&pass.dldw_vtx2xyz), "{pass:?}");
-            }
-        }
+        assert_eq!(code, 0, "{pass:?}");
+        let shown = shown(&pass);
+        same(&xyz, &wanted, &pass.dldw_vtx2xyz, |at| shown[at / 3]);
+        accepted += 1;
     }
-    println!("{accepted} accepted; the unchanged file gives other bits in {unlike}");
-    assert!(accepted > 10_000 && unlike > 50 && unlike < accepted / 10);
+    println!("{accepted} accepted, {ninth} refused with 9");
+    assert!(accepted > 10_000 && ninth > 1_000);
+}
+
+/// The unchanged file gives other bits only at corners of the second face of a pair that crosses: where no pair does, its
+/// bits are ours.
+#[cfg(listed)]
+#[test]
+fn the_listed_file_differs_only_where_faces_cross() {
+    let (mut crossed, mut uncrossed, mut unlike) = (0, 0, 0);
+    for pass in passes().filter(|p| bwd_code_to_8(p) == 0) {
+        let (code, ours) = bwd(&pass);
+        if code != 0 {
+            continue;
+        }
+        let listed = comparison::reference::bwd_as_listed(&pass).expect("it runs too");
+        let second = comparison::crossing::second_corners(&pass);
+        let mut differs = false;
+        for (at, (ours, listed)) in ours.iter().zip(&listed).enumerate() {
+            let equal = ours.to_bits() == listed.to_bits() || ours.is_nan() && listed.is_nan();
+            assert!(equal || second[at / 3], "place {at}: {ours:?}, {listed:?}");
+            differs |= !equal;
+        }
+        let crosses = second.contains(&true);
+        crossed += usize::from(crosses);
+        uncrossed += usize::from(!crosses);
+        unlike += usize::from(differs);
+    }
+    println!("faces cross in {crossed} scenes, in {unlike} of them with other bits; in {uncrossed} none cross");
+    assert!(unlike > 500 && crossed > unlike && uncrossed > 10_000);
 }
 
 /// The smallest scene in which the listed file and 01 differ (docs/DIFFERENCES.md): two faces that cross beside one
@@ -240,20 +313,8 @@ fn each_share_from_its_own_triangle() {
     pass.transform_world2pix[11] = 0.25;
     (pass.pix2tri, pass.pix2val, pass.dldw_pix2val) = (vec![0, 1], vec![1.0, 0.0], vec![1.0, 1.0]);
     pass.dldw_vtx2xyz = vec![0.0; 18];
-    let mut got = pass.dldw_vtx2xyz.clone();
-    let answer = paqelzim::bwd(
-        &pass.tri2vtx,
-        &pass.vtx2xyz,
-        &mut got,
-        &pass.transform_world2pix,
-        2,
-        1,
-        &pass.pix2tri,
-        1,
-        &pass.pix2val,
-        &pass.dldw_pix2val,
-    );
-    assert_eq!(code(answer), 0);
+    let (code, got) = bwd(&pass);
+    assert_eq!(code, 0);
     let wanted = comparison::reference::bwd(&pass).expect("accepted");
     let listed = comparison::reference::bwd_as_listed(&pass).expect("accepted");
     assert_eq!(bits(&got), bits(&wanted));
@@ -280,9 +341,11 @@ fn from_edges(v: &Velocities) -> (u32, Vec<f32>) {
 
 #[test]
 fn velocities_from_edges() {
+    let mut seen = Seen::default();
     for v in (0..PASSES).map(velocities) {
         let (code, vtx2velo) = from_edges(&v);
         assert_eq!(code, interpolate_from_edges_code(&v), "{v:?}");
+        seen.add(code);
         if code != 0 {
             assert_eq!(bits(&vtx2velo), bits(&v.vtx2velo), "{v:?}");
             continue;
@@ -294,5 +357,57 @@ fn velocities_from_edges() {
             &v.vtx2velo,
             |_| true,
         );
+    }
+    seen.is_all_of(&[0, 1, 3, 4]);
+}
+
+/// Arguments of that many vertices and faces, over one empty pixel.
+fn of_counts(vertices: usize, faces: usize) -> Pass {
+    let transform = std::array::from_fn(|at| f32::from(u8::from(at % 5 == 0)));
+    Pass {
+        img_w: 1,
+        img_h: 1,
+        pix2tri: vec![EMPTY],
+        tri2vtx: vec![0; 3 * faces],
+        vtx2xyz: vec![0.5; 3 * vertices],
+        num_vdim: 1,
+        vtx2val: vec![0.5; vertices],
+        pix2val: vec![0.5],
+        dldw_pix2val: vec![0.5],
+        dldw_vtx2xyz: vec![0.5; 3 * vertices],
+        dldw_vtx2val: vec![0.5; vertices],
+        hedge2type: Vec::new(),
+        hedge2dldr: Vec::new(),
+        vedge2type: Vec::new(),
+        vedge2dldr: Vec::new(),
+        transform_ndc2world: transform,
+        transform_world2pix: transform,
+    }
+}
+
+#[test]
+fn counts_to_1048576() {
+    let most = MOST as usize;
+    for (vertices, faces, wanted) in [
+        (most, 0, 0),
+        (most + 1, 0, 3),
+        (3, most, 0),
+        (3, most + 1, 3),
+    ] {
+        let pass = of_counts(vertices, faces);
+        let values = [interpolate(&pass).0, interpolate_bwd(&pass).0];
+        let edges = [edges(&pass).0, bwd(&pass).0];
+        assert_eq!([values, edges], [[wanted; 2]; 2], "{vertices}, {faces}");
+    }
+    for (points, wanted) in [(most, 0), (most + 1, 3)] {
+        let velocities = Velocities {
+            img_w: 2,
+            img_h: 2,
+            hedge2vy: vec![0.5; 2],
+            vedge2vx: vec![0.5; 2],
+            vtx2xy: vec![0.5; 2 * points],
+            vtx2velo: vec![0.5; 2 * points],
+        };
+        assert_eq!(from_edges(&velocities).0, wanted, "{points}");
     }
 }

@@ -3,10 +3,11 @@
 //! drawing's depth bits and, renumbered, its map; and every pass over it gives the same code and the same bits.
 use comparison::pass::{beside_the_map, Pass};
 use comparison::random::Random;
-use comparison::scene::{accepted, Scene, EMPTY};
+use comparison::scene::{accepted, crowded, Scene, EMPTY};
 use paqelzim::Refusal;
 
 const CASES: u64 = 20_000;
+const CROWDED: u64 = 5_000;
 
 #[derive(Clone)]
 struct Layer {
@@ -44,11 +45,11 @@ fn garbage(random: &mut Random, pixels: usize) -> Layer {
     }
 }
 
-/// A call that is refused, of any kind, on some layer.
-fn refused(random: &mut Random, layers: &mut [Option<Layer>], scene: &Scene) {
+/// A call that is refused, of any kind, on some layer; false where that layer is gone.
+fn refused(random: &mut Random, layers: &mut [Option<Layer>], scene: &Scene) -> bool {
     let at = random.below(layers.len());
     let Some(layer) = &mut layers[at] else {
-        return;
+        return false;
     };
     let (w, h) = (scene.img_w, scene.img_h);
     let answer = match random.below(5) {
@@ -62,12 +63,16 @@ fn refused(random: &mut Random, layers: &mut [Option<Layer>], scene: &Scene) {
         }
     };
     answer.expect_err("a refused call");
+    true
 }
 
+/// A run's first number and its faces.
+type Run = (usize, Vec<u32>);
+
 /// The runs of the kept faces: any cut, empty runs too.
-fn runs(random: &mut Random, kept: &[u32]) -> Vec<(usize, Vec<u32>)> {
+fn runs(random: &mut Random, kept: &[u32], cuts: usize) -> Vec<Run> {
     let faces = kept.len() / 3;
-    let mut cuts: Vec<usize> = (0..random.below(5))
+    let mut cuts: Vec<usize> = (0..random.within(0, cuts))
         .map(|_| random.within(0, faces))
         .collect();
     cuts.extend([0, faces]);
@@ -77,8 +82,7 @@ fn runs(random: &mut Random, kept: &[u32]) -> Vec<(usize, Vec<u32>)> {
 }
 
 /// Clears and draws every run's layer and joins neighbours until one remains, in any sequence.
-fn assembled(random: &mut Random, scene: &Scene, kept: &[u32]) -> Layer {
-    let runs = runs(random, kept);
+fn assembled(random: &mut Random, scene: &Scene, runs: &[Run], seen: &mut Seen) -> Layer {
     let pixels = scene.img_w * scene.img_h;
     let mut layers: Vec<Option<Layer>> =
         runs.iter().map(|_| Some(garbage(random, pixels))).collect();
@@ -86,7 +90,7 @@ fn assembled(random: &mut Random, scene: &Scene, kept: &[u32]) -> Layer {
     let mut state = vec![0; runs.len()];
     while state.iter().filter(|&&s| s != 3).count() > 1 || state[0] != 2 {
         if random.percent(20) {
-            refused(random, &mut layers, scene);
+            seen.refused_calls += usize::from(refused(random, &mut layers, scene));
         }
         let at = random.below(runs.len());
         match state[at] {
@@ -115,18 +119,18 @@ fn assembled(random: &mut Random, scene: &Scene, kept: &[u32]) -> Layer {
     layers[0].take().unwrap()
 }
 
-/// Code and written buffers of every pass, as bits.
-fn passes(pass: &Pass) -> Vec<(Result<(), Refusal>, Vec<Vec<u32>>)> {
+/// Code and written buffers of a pass, as bits.
+type Outcome = (Result<(), Refusal>, Vec<Vec<u32>>);
+
+fn edge_types(pass: &Pass) -> Outcome {
     let p = &mut pass.clone();
-    let (w, h) = (p.img_w, p.img_h);
-    let (tri, xyz, map) = (&p.tri2vtx, &p.vtx2xyz, &p.pix2tri);
-    let edges = paqelzim::edge_gradient_and_type(
-        tri,
-        xyz,
+    let answer = paqelzim::edge_gradient_and_type(
+        &p.tri2vtx,
+        &p.vtx2xyz,
         &p.transform_world2pix,
-        w,
-        h,
-        map,
+        p.img_w,
+        p.img_h,
+        &p.pix2tri,
         p.num_vdim,
         &p.pix2val,
         &p.dldw_pix2val,
@@ -135,107 +139,201 @@ fn passes(pass: &Pass) -> Vec<(Result<(), Refusal>, Vec<Vec<u32>>)> {
         &mut p.vedge2type,
         &mut p.vedge2dldr,
     );
-    let mut through_edges = p.dldw_vtx2xyz.clone();
-    let edges_backward = paqelzim::bwd(
-        tri,
-        xyz,
-        &mut through_edges,
-        &p.transform_world2pix,
-        w,
-        h,
-        map,
-        p.num_vdim,
-        &p.pix2val,
-        &p.dldw_pix2val,
-    );
-    let values = paqelzim::interpolate(
-        w,
-        h,
-        map,
-        tri,
-        xyz,
-        p.num_vdim,
-        &p.vtx2val,
-        &p.transform_ndc2world,
-        &mut p.pix2val,
-    );
-    let backward = paqelzim::interpolate_bwd(
-        w,
-        h,
-        map,
-        tri,
-        xyz,
-        p.num_vdim,
-        &p.vtx2val,
-        &p.transform_ndc2world,
-        &p.dldw_pix2val,
-        &mut p.dldw_vtx2xyz,
-        &mut p.dldw_vtx2val,
-    );
     let types = |types: &[u8]| types.iter().map(|&t| t.into()).collect::<Vec<u32>>();
-    let of_edges = vec![
+    let left = vec![
         types(&p.hedge2type),
         types(&p.vedge2type),
         bits(&p.hedge2dldr),
         bits(&p.vedge2dldr),
     ];
-    vec![
-        (edges, of_edges),
-        (edges_backward, vec![bits(&through_edges)]),
-        (values, vec![bits(&p.pix2val)]),
-        (backward, vec![bits(&p.dldw_vtx2xyz), bits(&p.dldw_vtx2val)]),
-    ]
+    (answer, left)
+}
+
+fn edges_backward(pass: &Pass) -> Outcome {
+    let mut dldw_vtx2xyz = pass.dldw_vtx2xyz.clone();
+    let answer = paqelzim::bwd(
+        &pass.tri2vtx,
+        &pass.vtx2xyz,
+        &mut dldw_vtx2xyz,
+        &pass.transform_world2pix,
+        pass.img_w,
+        pass.img_h,
+        &pass.pix2tri,
+        pass.num_vdim,
+        &pass.pix2val,
+        &pass.dldw_pix2val,
+    );
+    (answer, vec![bits(&dldw_vtx2xyz)])
+}
+
+fn values(pass: &Pass) -> Outcome {
+    let mut pix2val = pass.pix2val.clone();
+    let answer = paqelzim::interpolate(
+        pass.img_w,
+        pass.img_h,
+        &pass.pix2tri,
+        &pass.tri2vtx,
+        &pass.vtx2xyz,
+        pass.num_vdim,
+        &pass.vtx2val,
+        &pass.transform_ndc2world,
+        &mut pix2val,
+    );
+    (answer, vec![bits(&pix2val)])
+}
+
+fn values_backward(pass: &Pass) -> Outcome {
+    let mut dldw_vtx2xyz = pass.dldw_vtx2xyz.clone();
+    let mut dldw_vtx2val = pass.dldw_vtx2val.clone();
+    let answer = paqelzim::interpolate_bwd(
+        pass.img_w,
+        pass.img_h,
+        &pass.pix2tri,
+        &pass.tri2vtx,
+        &pass.vtx2xyz,
+        pass.num_vdim,
+        &pass.vtx2val,
+        &pass.transform_ndc2world,
+        &pass.dldw_pix2val,
+        &mut dldw_vtx2xyz,
+        &mut dldw_vtx2val,
+    );
+    (answer, vec![bits(&dldw_vtx2xyz), bits(&dldw_vtx2val)])
+}
+
+const PASSES: [fn(&Pass) -> Outcome; 4] = [values, values_backward, edge_types, edges_backward];
+
+/// What was met.
+#[derive(Debug, Default)]
+struct Seen {
+    /// Of the case that runs.
+    seed: u64,
+    cases: usize,
+    runs: usize,
+    /// Calls among the clears, draws and joins of a sequence.
+    refused_calls: usize,
+    faces: usize,
+    removed: usize,
+    pixels: usize,
+    covered: usize,
+    /// Of each pass, how often it was accepted with a covered pixel, and how often refused.
+    accepted: [usize; 4],
+    refused: [usize; 4],
+}
+
+/// The full drawing.
+fn drawn_whole(random: &mut Random, scene: &Scene) -> Layer {
+    let mut full = garbage(random, scene.img_w * scene.img_h);
+    clear(&mut full, scene);
+    draw(&mut full, scene, &scene.tri2vtx, 0).expect("accepted");
+    full
+}
+
+/// Takes out none, some or all of the faces that hold no pixel: the kept ones, and the map renumbered.
+fn thinned(random: &mut Random, scene: &Scene, full: &Layer) -> (Vec<u32>, Vec<u32>) {
+    let share = random.one_of(&[0, 50, 100]);
+    let faces = scene.tri2vtx.as_chunks::<3>().0;
+    let keep: Vec<bool> = (0..faces.len() as u32)
+        .map(|face| full.pix2tri.contains(&face) || !random.percent(share))
+        .collect();
+    let kept = (0..faces.len())
+        .filter(|&face| keep[face])
+        .flat_map(|face| faces[face]);
+    let renumber = |&entry: &u32| match entry {
+        EMPTY => EMPTY,
+        face => keep[..face as usize].iter().filter(|&&k| k).count() as u32,
+    };
+    let renumbered = full.pix2tri.iter().map(renumber).collect();
+    (kept.collect(), renumbered)
+}
+
+/// The passes over the full drawing, and over the thinned list and its map.
+fn passes_are_alike(pass: &mut Pass, full: [Vec<u32>; 2], thin: [Vec<u32>; 2], seen: &mut Seen) {
+    let shown = full[1].iter().any(|&entry| entry != EMPTY);
+    [pass.tri2vtx, pass.pix2tri] = full;
+    let whole = PASSES.map(|call| call(pass));
+    [pass.tri2vtx, pass.pix2tri] = thin;
+    let same = PASSES.map(|call| call(pass));
+    assert_eq!(same, whole, "passes of seed {}", seen.seed);
+    for (at, (answer, _)) in whole.iter().enumerate() {
+        seen.accepted[at] += usize::from(answer.is_ok() && shown);
+        seen.refused[at] += usize::from(answer.is_err());
+    }
+}
+
+/// The mesh's vertices, or as many others; now and then a matrix under which no corner has a projection.
+fn vary(random: &mut Random, pass: &mut Pass) {
+    if random.percent(30) {
+        let hostile = random.one_of(&[0, 0, 10]);
+        for x in &mut pass.vtx2xyz {
+            *x = if random.percent(hostile) {
+                random.hostile()
+            } else {
+                random.between(-1.0, 1.0)
+            };
+        }
+    }
+    if random.percent(10) {
+        for at in [3, 7, 11, 15] {
+            pass.transform_world2pix[at] = 0.0;
+        }
+    }
+}
+
+/// One sequence of calls over the scene, cut at `cuts` places at most, and all passes over what remains.
+fn case(random: &mut Random, scene: &Scene, cuts: usize, seen: &mut Seen) {
+    let full = drawn_whole(random, scene);
+    let (kept, renumbered) = thinned(random, scene, &full);
+    let runs = runs(random, &kept, cuts);
+    let last = assembled(random, scene, &runs, seen);
+    let seed = seen.seed;
+    assert_eq!(last.pix2tri, renumbered, "map of seed {seed}");
+    let (got, wanted) = (bits(&last.pix2depth), bits(&full.pix2depth));
+    assert_eq!(got, wanted, "depths of seed {seed}");
+    seen.cases += 1;
+    seen.runs += runs.len();
+    seen.faces += scene.tri2vtx.len() / 3;
+    seen.removed += (scene.tri2vtx.len() - kept.len()) / 3;
+    seen.pixels += renumbered.len();
+    seen.covered += renumbered.iter().filter(|&&entry| entry != EMPTY).count();
+    let mut pass = beside_the_map(random, scene);
+    pass.vtx2xyz = scene.vtx2xyz.clone();
+    vary(random, &mut pass);
+    let whole = [scene.tri2vtx.clone(), full.pix2tri];
+    passes_are_alike(&mut pass, whole, [kept, last.pix2tri], seen);
 }
 
 #[test]
 fn thinned_cut_and_joined_the_picture_and_its_passes_are_the_same() {
-    let (mut removed, mut covered) = (0, 0);
+    let mut seen = Seen::default();
     for seed in 0..CASES {
         let random = &mut Random::new(seed);
         let scene = accepted(random);
-        if scene.img_w * scene.img_h > 400 {
-            continue;
+        // larger images come below, with more faces
+        if scene.img_w * scene.img_h <= 400 {
+            seen.seed = seed;
+            case(random, &scene, 4, &mut seen);
         }
-        let mut full = garbage(random, scene.img_w * scene.img_h);
-        clear(&mut full, &scene);
-        draw(&mut full, &scene, &scene.tri2vtx, 0).expect("accepted");
-        // of the faces that hold no pixel, none, some or all
-        let share = random.one_of(&[0, 50, 100]);
-        let faces = scene.tri2vtx.as_chunks::<3>().0;
-        let keep: Vec<bool> = (0..faces.len() as u32)
-            .map(|face| full.pix2tri.contains(&face) || !random.percent(share))
-            .collect();
-        let kept: Vec<u32> = (0..faces.len())
-            .filter(|&face| keep[face])
-            .flat_map(|face| faces[face])
-            .collect();
-        let renumber = |&entry: &u32| match entry {
-            EMPTY => EMPTY,
-            face => keep[..face as usize].iter().filter(|&&k| k).count() as u32,
-        };
-        let last = assembled(random, &scene, &kept);
-        let renumbered: Vec<u32> = full.pix2tri.iter().map(renumber).collect();
-        assert_eq!(last.pix2tri, renumbered, "map of case {seed}");
-        assert_eq!(
-            bits(&last.pix2depth),
-            bits(&full.pix2depth),
-            "depths of case {seed}"
-        );
-        removed += faces.len() - kept.len() / 3;
-        covered += full.pix2tri.iter().filter(|&&entry| entry != EMPTY).count();
-        // the mesh's vertices, or as many others
-        let mut pass = beside_the_map(random, &scene);
-        pass.vtx2xyz = scene.vtx2xyz.clone();
-        if random.percent(30) {
-            pass.vtx2xyz
-                .iter_mut()
-                .for_each(|x| *x = random.between(-1.0, 1.0));
-        }
-        (pass.tri2vtx, pass.pix2tri) = (scene.tri2vtx.clone(), full.pix2tri);
-        let whole = passes(&pass);
-        (pass.tri2vtx, pass.pix2tri) = (kept, last.pix2tri);
-        assert_eq!(passes(&pass), whole, "passes of case {seed}");
     }
-    println!("{removed} faces taken out, {covered} pixels covered");
-    assert!(removed > 5_000 && covered > 5_000);
+    println!("{seen:?}");
+    assert!(seen.cases > 18_000 && seen.removed > 30_000 && seen.covered > 40_000);
+    assert!(seen.refused_calls > 30_000);
+    assert!(seen.accepted.iter().all(|&times| times > 2_000));
+    assert!(seen.refused.iter().all(|&times| times > 200));
+}
+
+#[test]
+fn so_are_crowded_pictures() {
+    let mut seen = Seen::default();
+    for seed in CASES..CASES + CROWDED {
+        let random = &mut Random::new(seed);
+        let scene = crowded(random);
+        seen.seed = seed;
+        case(random, &scene, 12, &mut seen);
+    }
+    println!("{seen:?}");
+    assert!(seen.runs > 30_000 && seen.refused_calls > 15_000);
+    assert!(seen.removed > 250_000 && seen.covered > 4_000_000);
+    assert!(seen.accepted.iter().all(|&times| times > 3_000));
+    assert!(seen.refused.iter().all(|&times| times > 300));
 }

@@ -1,7 +1,6 @@
 use Rattle.questions.specs.Questions.{firstNo}
-use Rattle.questions.specs.Laws.{sized, said-no, said-yes}
+use Rattle.questions.specs.Laws.{sized, channelled, said-no, said-yes}
 use Rattle.edges.specs.Gradient.{signal}
-use Rattle.edges.specs.Laws.{few}
 use Rattle.edge_bwd.specs.Calls.{bwdCode}
 use Rattle.edge_bwd.proofs.Calls.{ready}
 use borrow.Author.Needs.{needs}
@@ -52,7 +51,7 @@ returns-4 c =
     )
 
 lengths-ok-requires : tie.Need-lengths-ok-requires
-lengths-ok-requires c κs = (sized 1 _ _ (said-yes (c .before .before .before .before .before .before .before .sizes-ok .ensures) (c .before .before .before .before .before .before .if1 .left)), few _ (said-yes (c .before .before .before .before .before .channels-ok .ensures) (c .before .before .before .before .if2 .left)))
+lengths-ok-requires c κs = (sized 1 _ _ (said-yes (c .before .before .before .before .before .before .before .sizes-ok .ensures) (c .before .before .before .before .before .before .if1 .left)), channelled _ (said-yes (c .before .before .before .before .before .channels-ok .ensures) (c .before .before .before .before .if2 .left)))
 
 returns-5 : tie.Need-returns-5
 unfolding bwdCode firstNo

@@ -1,9 +1,7 @@
-use Prim.Native.Nat.{_*_, _≤_}
-use native.Mathlib.Nat.{mul-le-mul}
 use native.Mathlib.Omega.{arith}
 use borrow.Author.Tests.{eq-eqb, ne-eqb}
 use Rattle.questions.specs.Questions.{exact}
-use Rattle.questions.specs.Laws.{area}
+use Rattle.questions.specs.Laws.{area, area-fits}
 use Rattle.edge_bwd.specs.Calls.{exactBwd}
 use borrow.Author.Needs.{needs}
 use Rattle.edge_bwd.proofs.lengths_ok.Statement.{statement}
@@ -18,10 +16,7 @@ returns c = rw (ne-eqb _ _ (c .if1 .taken))
 
 mul-if2 : tie.Need-mul-if2
 mul-if2 c =
-    let s = c .before in
-    let few : s .args .num-vdim ≤ 16 = omega arith in
-    let l : s .args .img-w * s .args .img-h * s .args .num-vdim ≤ 16777216 * 16 = mul-le-mul (area 1 _ _ (s .pre .0)) few in
-    record { fits = omega arith }
+    let s = c .before in record { fits = omega (arith, area-fits _ _ _ (s .pre .0) (s .pre .1)) }
 
 returns-2 : tie.Need-returns-2
 unfolding exactBwd exact

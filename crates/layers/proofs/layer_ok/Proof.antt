@@ -1,5 +1,3 @@
-use native.Mathlib.Nat.{le-trans}
-use lib.Dec.{lit≤, lit<}
 use borrow.Author.Tests.{eq-eqb, ne-eqb}
 use native.Mathlib.Omega.{arith}
 use Rattle.questions.specs.Questions.{exact}

@@ -1,12 +1,11 @@
 -- Drawing into a clear pixel shows the first face of greatest depth: the fold of `pick` ends at the earliest offer that no other exceeds.
-use mathlib.Core.Path.{_≡_, refl, ap, sym, _∙_, subst}
+use mathlib.Core.Path.{_≡_, refl, ap, sym, _∙_}
 use mathlib.Core.Logic.{_⊎_, inl, inr}
 use mathlib.Core.Bool.{Bool, true, false, not, cond}
 use mathlib.Core.List.{List, [], _∷_, _++_, append-assoc, append-nil, List·Memᴰ, List·Memᴰ·head, List·Memᴰ·tail, List·Memᴰ·append-cases, List·Memᴰ·not-nil, List·Memᴰ·eq-of-singleton, Memᴰ·append-left, Memᴰ·append-right}
 use lib.Dec.{T, T-not, not-T}
-use lib.Ieee.{lt}
 use Rattle.layers.specs.Cell.{Cell, clear, exceeds, pick, offered}
-use Rattle.layers.specs.Offers.{offersOf, Exceeded, Greatest, Shows, uncovered, covered}
+use Rattle.layers.specs.Offers.{offersOf, Greatest, Shows, uncovered, covered}
 use Rattle.layers.specs.Laws.Order.{test, lt-irrefl, lt-trans, not-lt-trans, above-number, not-above}
 
 -- ---- one step

@@ -2,12 +2,12 @@
 use Prim.Native.Nat.{ℕ, zero, suc, _+_, _<_, _≤_}
 use mathlib.Core.Path.{_≡_, refl, sym, ap, ap₂, _∙_}
 use mathlib.Core.List.{List, [], _∷_, _++_, append-nil}
-use native.Mathlib.Nat.{le-of-eq, not-suc-le-zero, le-of-suc-le-suc, add-zero, zero-add, add-suc}
+use native.Mathlib.Nat.{le-of-eq, not-suc-le-zero, le-of-suc-le-suc, add-zero, zero-add}
 use native.Mathlib.Numerals.{add-one}
 use native.Mathlib.Omega.{arith}
 use lib.Ieee.{nan}
 use lib.ListN.{length, length-set, getD, set, drop, drop-of-length-le, List·getD-eq-default}
-use lib.Seq.{ext-getD, getD-append-add}
+use lib.Seq.{ext-getD}
 use Rattle.layers.specs.Cell.{Cell, cell}
 use Rattle.layers.specs.Steps.{Spans, Reaches, written}
 use Rattle.layers.specs.Layer.{Layer, layer, at, tabulate, pixelwise}
@@ -55,6 +55,18 @@ module _ {A : Type 0} (f : ℕ → A) (old : List A) where
   pub stored-all : (n : ℕ) → length old ≡ n → stored f old n ≡ tabulate f 0 n
   unfolding stored
   stored-all n e = rw (drop-of-length-le old {i = n} (le-of-eq e)) (append-nil _)
+
+-- two rows with the same entries
+pub tabulate-same : {A : Type 0} (f g : ℕ → A) (a b n : ℕ) → ((k : ℕ) → k < n → f (a + k) ≡ g (b + k)) → tabulate f a n ≡ tabulate g b n
+unfolding tabulate
+tabulate-same f g a b zero h = refl
+tabulate-same f g a b (suc n) h =
+    ap₂ _∷_ (ap f (sym (add-zero a)) ∙ h 0 (omega arith) ∙ ap g (add-zero b))
+    (tabulate-same f g (suc a) (suc b) n
+    (λ k l.
+    let i : suc a + k ≡ a + suc k = omega arith in
+    let j : b + suc k ≡ suc b + k = omega arith in
+    ap f i ∙ h (suc k) (omega arith) ∙ ap g j))
 
 -- The layer after the pixels below i have f's cells, in rising number.
 unfoldable pub soFar : (ℕ → Cell) → Layer → ℕ → Layer
@@ -116,16 +128,11 @@ module _ (step : ℕ → Cell → Cell) (l : Layer) (n : ℕ) (whole : Spans l n
 
 -- ---- a layer pixel by pixel
 
-tabulate-same : {A : Type 0} (f g : ℕ → A) (p n : ℕ) → ((i : ℕ) → p ≤ i → i < p + n → f i ≡ g i) → tabulate f p n ≡ tabulate g p n
-unfolding tabulate
-tabulate-same f g p zero h = refl
-tabulate-same f g p (suc n) h = ap₂ _∷_ (h p (omega arith) (omega arith)) (tabulate-same f g (suc p) n (λ i l u. h i (omega arith) (omega arith)))
-
 pub pixelwise-same : (n : ℕ) (f g : ℕ → Cell) → ((p : ℕ) → p < n → f p ≡ g p) → pixelwise n f ≡ pixelwise n g
 pixelwise-same n f g h =
     ap₂ layer
-    (tabulate-same (λ p. f p .number) (λ p. g p .number) 0 n (λ i l u. ap (λ (c : Cell). c .number) (h i (omega arith))))
-    (tabulate-same (λ p. f p .depth) (λ p. g p .depth) 0 n (λ i l u. ap (λ (c : Cell). c .depth) (h i (omega arith))))
+    (tabulate-same (λ p. f p .number) (λ p. g p .number) 0 0 n (λ k l. ap (λ (c : Cell). c .number) (h (0 + k) (omega arith))))
+    (tabulate-same (λ p. f p .depth) (λ p. g p .depth) 0 0 n (λ k l. ap (λ (c : Cell). c .depth) (h (0 + k) (omega arith))))
 
 pub spans-pixelwise : (n : ℕ) (f : ℕ → Cell) → Spans (pixelwise n f) n
 spans-pixelwise n f = record { numbers = length-tabulate (λ p. f p .number) 0 n; depths = length-tabulate (λ p. f p .depth) 0 n }

@@ -1,4 +1,3 @@
-use borrow.Author.Needs.{needs}
 use Rattle.questions.specs.Questions.{numbers}
 use borrow.Author.Tests.{lt-leb}
 use Rattle.questions.proofs.Answers.{above, moved}

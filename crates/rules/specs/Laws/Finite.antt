@@ -1,8 +1,7 @@
 -- A piece with a corner not finite in pixels has weights nowhere: what is computed from an infinity or a NaN by sums and products is not finite.
 use mathlib.Core.Path.{_≡_, refl}
-use mathlib.Core.Bool.{Bool, true, false, not, _&&_, cond, false≢true}
-use mathlib.Core.List.{List, []}
-use mathlib.Core.Option.{none}
+use mathlib.Core.Bool.{Bool, true, false, _&&_, cond, false≢true}
+use mathlib.Core.List.{[]}
 use lib.Dec.{eqb}
 use lib.Ieee.{Float, nan, inf, fin, binary32, add, sub, mul, neg}
 use Rattle.geometry.specs.Arith.{floats}

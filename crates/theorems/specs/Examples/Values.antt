@@ -10,11 +10,11 @@ use Rattle.pixels.specs.Pixel.{centre}
 use Rattle.rays.specs.Space.{minus3, dot3, cross3, along3, across, down}
 use Rattle.rays.specs.Plane.{normal, distance, hit, weight, weightsAt, weightsOn, planeWeights}
 use Rattle.rays.specs.Pixel.{rayBetween, rayAt, columnAt, rowAt, pixelRay}
-use Rattle.meshes.specs.Mesh.{faceAt, vertexAt}
+use Rattle.meshes.specs.Mesh.{faceAt, vertexAt, cornersAt}
 use Rattle.meshes.specs.View.{named}
 use Rattle.layers.specs.Layer.{tabulate}
 use Rattle.theorems.specs.Examples.{zero, one, quarter, matrix, corners}
-use Rattle.values.specs.Pass.{image, vertices, cornersAt, rayOf}
+use Rattle.values.specs.Pass.{image, vertices, rayOf}
 use Rattle.values.specs.Questions.{answered, raysAnswer, exactCounts}
 use Rattle.values.specs.Interpolate.{blendOf, valueAt, valueIn, interpolated, interpolateCode, interpolating, Outcome, outcome}
 

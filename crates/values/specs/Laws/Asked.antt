@@ -1,106 +1,31 @@
 -- What the questions say, answered yes; and how the answers of their parts make the answer of the call.
-use Prim.Native.Nat.{ℕ, zero, suc, _+_, _*_, _/_, _%_, _≤_, _<_}
+use Prim.Native.Nat.{ℕ, _+_, _*_, _/_, _≤_, _<_}
 use mathlib.Core.Path.{_≡_, refl, sym, _∙_, ap}
-use mathlib.Core.Bool.{Bool, true, false, _&&_, _||_, cond, false≢true}
-use mathlib.Core.Option.{none, some}
+use mathlib.Core.Bool.{Bool, true, false, _&&_, cond}
+use mathlib.Core.Option.{some}
 use mathlib.Core.List.{List, [], _∷_, _++_}
-use native.Mathlib.Nat.{le-div-iff-mul-le, mul-le-mul-right, not-suc-le-zero, le-of-suc-le-suc}
+use native.Mathlib.Nat.{le-div-iff-mul-le, mul-le-mul-right}
 use native.Mathlib.Omega.{arith}
-use lib.Dec.{leb, ltb, eqb}
 use lib.Ieee.{Float}
 use lib.ListN.{length, getD}
-use borrow.Author.Tests.{leb-true, ltb-true, eq-eqb, ne-eqb}
-use Rattle.questions.specs.Questions.{Question, ask, firstNo, sizes, channels, groups, exact, every, allBelow, namesFace, namesFaces, empty, mostCount}
-use Rattle.questions.specs.Laws.{Sized, sized, both, accepted, exactly}
+use Rattle.questions.specs.Questions.{Question, ask, firstNo, sizes, channels, groups, exact, allBelow, namesFace, namesFaces, empty, mostCount}
+use Rattle.questions.specs.Laws.{Sized, sized, Channels, channelled, grouped, both, accepted, exactly, every-at, below-at, face-below}
+use Rattle.questions.specs.Laws.Opening.{Opened, opened}
 use Rattle.meshes.specs.Mesh.{Face, faceAt}
 use Rattle.meshes.specs.View.{named}
+use Rattle.meshes.specs.Laws.{named-some}
 use Rattle.values.specs.Pass.{Image, Vertices, count}
-use Rattle.values.specs.Questions.{opening, exactCounts, exactPass, closing}
+use Rattle.values.specs.Questions.{exactCounts, exactPass, closing}
 use Rattle.values.specs.Interpolate.{interpolateCode}
-use Rattle.values.specs.Steps.{Vertex, FaceOf, Entry, Channels, Mesh, Map}
-
--- the first questions refuse, and so does the call
-pub first-refused : (qs rest : List Question) → (firstNo qs ≡ 0 → ⊥) → firstNo qs ≡ firstNo (qs ++ rest)
-unfolding firstNo
-first-refused [] rest no0 = absurd (no0 refl)
-first-refused (q ∷ qs) rest no0 = go (q .answer) (first-refused qs rest) no0
-  where
-    go : (a : Bool) → ((firstNo qs ≡ 0 → ⊥) → firstNo qs ≡ firstNo (qs ++ rest)) → (cond a (firstNo qs) (q .number) ≡ 0 → ⊥)
-        → cond a (firstNo qs) (q .number) ≡ cond a (firstNo (qs ++ rest)) (q .number)
-    go true more no0 = more no0
-    go false more no0 = refl
-
--- ---- questions 1 to 3
-
-pub record Opened (w h c tri xyz : ℕ) : Type 0 where
-  pub sized : Sized 1 w h
-  pub few : Channels c
-  pub faces : tri / 3 ≤ mostCount
-  pub vertices : xyz / 3 ≤ mostCount
-
-whole-groups : (n : ℕ) → groups 3 n ≡ true → n / 3 ≤ mostCount
-unfolding groups
-whole-groups n e = leb-true _ _ (both (eqb (n % 3) 0) _ e .1)
-
-some-channels : (c : ℕ) → channels c ≡ true → Channels c
-unfolding channels
-some-channels c e = let p = both (leb 1 c) _ e in record { least = leb-true _ _ (p .0); most = leb-true _ _ (p .1) }
-
-module _ (w h c tri xyz : ℕ) (rest : List Question) where
-  answers : firstNo (opening w h c tri xyz ++ rest) ≡ 0
-      → (sizes 1 w h ≡ true) × (channels c ≡ true) × (groups 3 tri && groups 3 xyz ≡ true) × (firstNo rest ≡ 0)
-  answers e =
-      let one = accepted 0 (sizes 1 w h) _ e in
-      let two = accepted 1 (channels c) _ (one .1) in
-      let three = accepted 2 (groups 3 tri && groups 3 xyz) _ (two .1) in
-      (one .0, two .0, three .0, three .1)
-
-  pub opened : firstNo (opening w h c tri xyz ++ rest) ≡ 0 → Opened w h c tri xyz × (firstNo rest ≡ 0)
-  opened e =
-      let a = answers e in
-      let both3 = both (groups 3 tri) _ (a .2) in (
-        record {
-          sized = sized 1 w h (a .0);
-          few = some-channels c (a .1);
-          faces = whole-groups tri (both3 .0);
-          vertices = whole-groups xyz (both3 .1);
-        },
-        a .3,
-      )
-
--- the questions that follow decide
-pub past-opening : (w h c tri xyz : ℕ) (rest : List Question) → firstNo (opening w h c tri xyz) ≡ 0 → firstNo rest ≡ firstNo (opening w h c tri xyz ++ rest)
-unfolding firstNo
-past-opening w h c tri xyz rest e = let a = answers w h c tri xyz [] e in rw (a .0, a .1, a .2)
-
--- question 4 after them
-module _ (w h c tri xyz : ℕ) (four : Bool) (rest : List Question) (open0 : firstNo (opening w h c tri xyz) ≡ 0) where
-  pub refused-4 : four ≡ false → 4 ≡ firstNo (opening w h c tri xyz ++ ask 4 four ∷ rest)
-  unfolding firstNo
-  refused-4 e = let p : 4 ≡ firstNo (ask 4 four ∷ rest) = rw e in p ∙ past-opening w h c tri xyz (ask 4 four ∷ rest) open0
-
-  pub past-4 : four ≡ true → firstNo rest ≡ firstNo (opening w h c tri xyz ++ ask 4 four ∷ rest)
-  unfolding firstNo
-  past-4 e = let p : firstNo rest ≡ firstNo (ask 4 four ∷ rest) = rw e in p ∙ past-opening w h c tri xyz (ask 4 four ∷ rest) open0
+use Rattle.values.specs.Steps.{Vertex, FaceOf, Entry, Mesh, Map}
 
 -- ---- questions 4, 6 and 7
-
-pub every-at : (t : ℕ → Bool) (xs : List ℕ) (i : ℕ) → every t xs ≡ true → i < length xs → t (getD xs i 0) ≡ true
-unfolding every
-every-at t [] i e h = absurd (not-suc-le-zero h)
-every-at t (x ∷ xs) zero e h = both (t x) _ e .0
-every-at t (x ∷ xs) (suc i) e h = every-at t xs i (both (t x) _ e .1) (le-of-suc-le-suc h)
 
 below-third : (n x : ℕ) → x < n / 3 → 3 * x + 2 < n
 below-third n x h = let g : (x + 1) * 3 ≤ n = le-div-iff-mul-le {k = 3} {x = x + 1} {y = n} (omega arith) .0 (omega arith) in omega arith
 
 entry-at : (tri : List ℕ) (x : ℕ) → namesFace (length tri / 3) x ≡ true → Entry tri x
-unfolding namesFace
-entry-at tri x e = record { face = λ other. below-third (length tri) x (go (ltb x (length tri / 3)) refl (rw (ne-eqb x empty other) at e)) }
-  where
-    go : (a : Bool) → ltb x (length tri / 3) ≡ a → ltb x (length tri / 3) || false ≡ true → x < length tri / 3
-    go true p q = ltb-true _ _ p
-    go false p q = let z : _≡_ {A = Bool} false true = rw p at q in absurd (false≢true z)
+entry-at tri x e = record { face = λ other. below-third (length tri) x (face-below (length tri / 3) x e other) }
 
 vertex-at : (s : Vertices) → count s ≤ mostCount → length (s .val) ≡ count s * s .channels → (v : ℕ) → v < count s → Vertex s v
 vertex-at s most exact4 v h =
@@ -138,13 +63,13 @@ module _ (g : Image) (s : Vertices) (tri map : List ℕ) (pixels : ℕ) where
         mesh =
             record {
               channels = o .few;
-              corner = λ i h. vertex-at s (o .vertices) (k .1) (getD tri i 0) (ltb-true _ _ (every-at _ tri i (six .0) h));
+              corner = λ i h. vertex-at s (o .vertices .most) (k .1) (getD tri i 0) (below-at (count s) tri (six .0) i h);
             };
         map =
             record {
-              sized = o .sized;
+              sized = o .size;
               whole = k .0;
-              entries = λ p h. entry-at tri (getD map p 0) (every-at _ map p (seven .0) (omega (arith, k .0)));
+              entries = λ p h. entry-at tri (getD map p 0) (every-at (namesFace (length tri / 3)) map (seven .0) p (omega (arith, k .0)));
             };
         pixels = k .2;
       }
@@ -158,13 +83,8 @@ interpolate-accepted g s tri map old e =
 
 -- ---- the face an entry names
 
-pub named-empty : (tri : List ℕ) (x : ℕ) → x ≡ empty → named tri x ≡ none
-unfolding named
-named-empty tri x e = rw (eq-eqb x empty e)
-
 pub named-face : (tri : List ℕ) (x : ℕ) (f : Face) → (x ≡ empty → ⊥) → f ≡ faceAt tri x → named tri x ≡ some f
-unfolding named
-named-face tri x f other e = rw (ne-eqb x empty other) (ap some (sym e))
+named-face tri x f other e = named-some tri x other ∙ ap some (sym e)
 
 pub face-in : (s : Vertices) (tri : List ℕ) → Mesh s tri → (x : ℕ) → 3 * x + 2 < length tri → (f : Face) → f ≡ faceAt tri x → FaceOf s f
 unfolding faceAt

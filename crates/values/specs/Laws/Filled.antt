@@ -8,9 +8,9 @@ use lib.Ieee.{Float, nan}
 use lib.ListN.{length, getD, take, drop, length-append, length-drop, take-append-drop, drop-of-length-le}
 use lib.Seq.{length-take-le, take-at, drop-append-add, drop-drop, getD-append-add, getD-drop, getD-take}
 use Rattle.layers.specs.Layer.{tabulate}
-use Rattle.layers.specs.Laws.Pixels.{length-tabulate}
+use Rattle.layers.specs.Laws.Pixels.{length-tabulate, tabulate-same}
 use Rattle.values.specs.Steps.{filled}
-use Rattle.values.specs.Laws.Ranges.{tabulate-add, tabulate-same}
+use Rattle.values.specs.Laws.Ranges.{tabulate-add}
 
 module _ (F : ℕ → Float → Float) where
   pub filled-none : (a : ℕ) (xs : List Float) → xs ≡ filled F a 0 xs

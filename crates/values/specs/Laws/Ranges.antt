@@ -1,7 +1,7 @@
 -- Numbers in a row, cut in two, and a test of each of them.
 use Prim.Native.Nat.{ℕ, zero, suc, _+_, _-_, _*_, _≤_, _<_}
 use mathlib.Core.Path.{_≡_, refl, sym, _∙_, ap, ap₂}
-use mathlib.Core.Bool.{Bool, true, false, _&&_}
+use mathlib.Core.Bool.{Bool, true, false, _&&_, and-true, and-false, and-assoc}
 use mathlib.Core.List.{List, [], _∷_, _++_}
 use native.Mathlib.Nat.{add-zero, zero-add, mul-comm, mul-le-mul-right}
 use native.Mathlib.Omega.{arith}
@@ -22,35 +22,15 @@ module _ {A : Type 0} (f : ℕ → A) where
       let i : suc a + n ≡ a + suc n = omega arith in
       ap (tabulate f a) e ∙ ap (λ (t : List A). f a ∷ t) (tabulate-add (suc a) n m ∙ ap (λ (k : ℕ). tabulate f (suc a) n ++ tabulate f k m) i)
 
--- two rows with the same entries
-pub tabulate-same : {A : Type 0} (f g : ℕ → A) (a b n : ℕ) → ((k : ℕ) → k < n → f (a + k) ≡ g (b + k)) → tabulate f a n ≡ tabulate g b n
-unfolding tabulate
-tabulate-same f g a b zero h = refl
-tabulate-same f g a b (suc n) h =
-    ap₂ _∷_ (ap f (sym (add-zero a)) ∙ h 0 (omega arith) ∙ ap g (add-zero b))
-    (tabulate-same f g (suc a) (suc b) n
-    (λ k l.
-    let i : suc a + k ≡ a + suc k = omega arith in
-    let j : b + suc k ≡ suc b + k = omega arith in
-    ap f i ∙ h (suc k) (omega arith) ∙ ap g j))
-
 module _ (t : ℕ → Bool) where
   every-append : (xs ys : List ℕ) → every t (xs ++ ys) ≡ every t xs && every t ys
   unfolding every
   every-append [] ys = refl
-  every-append (x ∷ xs) ys = ap (λ (b : Bool). t x && b) (every-append xs ys) ∙ and-assoc (t x) (every t xs) (every t ys)
-    where
-      and-assoc : (a b c : Bool) → a && (b && c) ≡ (a && b) && c
-      and-assoc true b c = refl
-      and-assoc false b c = refl
+  every-append (x ∷ xs) ys = ap (λ (b : Bool). t x && b) (every-append xs ys) ∙ sym (and-assoc (t x) (every t xs) (every t ys))
 
   pub every-one : (p : ℕ) → every t (span p 1) ≡ t p
   unfolding every tabulate
-  every-one p = go (t p)
-    where
-      go : (b : Bool) → b && true ≡ b
-      go true = refl
-      go false = refl
+  every-one p = and-true (t p)
 
   pub every-none : (a : ℕ) → every t (span a 0) ≡ true
   unfolding every tabulate
@@ -68,10 +48,6 @@ module _ (t : ℕ → Bool) where
   every-stopped a n m whole h q =
       let e : n + (m + (whole - (n + m))) ≡ whole = omega arith in
       sym (ap (λ (k : ℕ). every t (span a k)) (sym e) ∙ every-add a n (m + (whole - (n + m))) ∙ rw (every-add (a + n) m (whole - (n + m)), q) (and-false (every t (span a n))))
-    where
-      and-false : (b : Bool) → b && false ≡ false
-      and-false true = refl
-      and-false false = refl
 
   -- nothing is left
   pub every-ended : (a n whole : ℕ) → n ≤ whole → whole ≤ n → every t (span a n) ≡ true → true ≡ every t (span a whole)

@@ -6,11 +6,13 @@ use native.Mathlib.Nat.{add-zero, zero-add}
 use native.Mathlib.Numerals.{add-one}
 use native.Mathlib.Omega.{arith}
 use lib.Ieee.{Float}
-use lib.ListN.{length, length-set}
+use lib.ListN.{length}
 use Rattle.geometry.specs.Arith.{Arith}
 use Rattle.geometry.specs.Vector.{Vec3, weights, Triangle}
+use Rattle.geometry.specs.Formula.{sumOf}
 use Rattle.meshes.specs.Mesh.{Face}
-use Rattle.meshes.specs.Sums.{Addition, addition, added, summed}
+use Rattle.meshes.specs.Sums.{Addition, addition, summed}
+use Rattle.meshes.specs.Laws.{summed-append, length-summed}
 use Rattle.layers.specs.Layer.{tabulate}
 use Rattle.meshes.specs.View.{View}
 use Rattle.values.specs.Pass.{Image, Vertices, span}
@@ -18,16 +20,6 @@ use Rattle.values.specs.Laws.Ranges.{tabulate-add}
 use Rattle.values_bwd.specs.Gather.{gathered}
 use Rattle.values_bwd.specs.Additions.{toXyz}
 use Rattle.values_bwd.specs.Bwd.{Sums, sums, xyzAt, valAt, summedOver}
-
-pub summed-append : (s : List Float) (xs ys : List Addition) → summed s (xs ++ ys) ≡ summed (summed s xs) ys
-unfolding summed
-summed-append s [] ys = refl
-summed-append s (x ∷ xs) ys = summed-append (added s x) xs ys
-
-pub length-summed : (s : List Float) (xs : List Addition) → length (summed s xs) ≡ length s
-unfolding summed added
-length-summed s [] = refl
-length-summed s (x ∷ xs) = length-summed (added s x) xs ∙ length-set s (x .place) _
 
 flatMap-append : (f : ℕ → List Addition) (xs ys : List ℕ) → flatMap f (xs ++ ys) ≡ flatMap f xs ++ flatMap f ys
 unfolding flatMap
@@ -65,7 +57,7 @@ turns-ended f s j n l g e = let same : j ≡ n = omega arith in e ∙ ap (λ (k 
 
 -- one more channel
 pub gathered-more : {A : Type 0} (R : Arith A) (v d : ℕ → A) (n : ℕ) {b : A} → b ≡ gathered R v d n → R .add b (R .mul (v n) (d n)) ≡ gathered R v d (n + 1)
-unfolding gathered
+unfolding gathered sumOf
 gathered-more R v d n e = rw (add-one n, e)
 
 -- the last

@@ -5,7 +5,8 @@ use Rattle.meshes.specs.Sums.{summed}
 use Rattle.edges.specs.Inside.{contains}
 use Rattle.edge_bwd.specs.Shares.{between, together, received}
 use Rattle.edge_bwd.proofs.Cases.{adds-after-empty, adds-before-empty}
-use Rattle.edge_bwd.proofs.Entries.{named-none, named-some, shows-projects}
+use Rattle.meshes.specs.Laws.{named-none, named-some}
+use Rattle.edge_bwd.proofs.Entries.{shows-projects}
 use borrow.Author.Needs.{needs}
 use Rattle.edge_bwd.proofs.shares.scatter_unequal.Statement.{statement}
 use Rattle.edge_bwd.proofs.shares.scatter_unequal.Tie as tie

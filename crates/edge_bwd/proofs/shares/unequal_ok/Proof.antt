@@ -4,7 +4,8 @@ use Rattle.edges.specs.Inside.{contains}
 use Rattle.edge_bwd.specs.Shares.{between, together, received}
 use Rattle.edge_bwd.specs.Calls.{weighableAll}
 use Rattle.edge_bwd.proofs.Cases.{weighs-after-empty, weighs-before-empty}
-use Rattle.edge_bwd.proofs.Entries.{named-none, named-some, shows-projects}
+use Rattle.meshes.specs.Laws.{named-none, named-some}
+use Rattle.edge_bwd.proofs.Entries.{shows-projects}
 use Rattle.edge_bwd.proofs.shares.unequal_ok.Statement.{statement}
 use Rattle.edge_bwd.proofs.shares.unequal_ok.Tie as tie
 

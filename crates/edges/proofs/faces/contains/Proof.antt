@@ -4,7 +4,7 @@ use Rattle.questions.specs.Questions.{empty}
 use Rattle.geometry.specs.Answer.{point2}
 use Rattle.meshes.specs.View.{named}
 use Rattle.edges.specs.Inside.{inside, weightsIn, contains}
-use Rattle.edges.specs.Laws.{entry-there}
+use Rattle.questions.specs.Laws.{face-below}
 use borrow.Author.Needs.{needs}
 use Rattle.edges.proofs.faces.contains.Statement.{statement}
 use Rattle.edges.proofs.faces.contains.Tie as tie
@@ -14,7 +14,7 @@ unfolding contains named
 returns c = rw (eq-eqb _ empty (c .if1 .taken))
 
 project-face-requires : tie.Need-project-face-requires
-project-face-requires c κs = (c .before .before .before .pre .0, entry-there _ _ (c .before .before .before .pre .1) (c .if1 .left))
+project-face-requires c κs = (c .before .before .before .pre .0, face-below _ _ (c .before .before .before .pre .1) (c .if1 .left))
 
 weights-in-requires : tie.Need-weights-in-requires
 weights-in-requires c κs = search needs

@@ -2,7 +2,7 @@ use borrow.Author.Tests.{eq-eqb, ne-eqb}
 use Rattle.questions.specs.Questions.{empty}
 use Rattle.meshes.specs.View.{named}
 use Rattle.edges.specs.Inside.{projects, present}
-use Rattle.edges.specs.Laws.{entry-there}
+use Rattle.questions.specs.Laws.{face-below}
 use borrow.Author.Needs.{needs}
 use Rattle.edges.proofs.faces.projects.Statement.{statement}
 use Rattle.edges.proofs.faces.projects.Tie as tie
@@ -12,7 +12,7 @@ unfolding projects named
 returns c = rw (eq-eqb _ empty (c .if1 .taken))
 
 project-face-requires : tie.Need-project-face-requires
-project-face-requires c κs = (c .before .before .before .pre .0, entry-there _ _ (c .before .before .before .pre .1) (c .if1 .left))
+project-face-requires c κs = (c .before .before .before .pre .0, face-below _ _ (c .before .before .before .pre .1) (c .if1 .left))
 
 enum-told : tie.Need-enum-told
 enum-told c = search needs

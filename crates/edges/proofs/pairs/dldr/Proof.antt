@@ -4,12 +4,14 @@ use native.Mathlib.Nat.{mul-le-mul-right, mul-comm}
 use native.Mathlib.Numerals.{add-one}
 use native.Mathlib.Omega.{arith}
 use Rattle.pixels.specs.Laws.{number-below}
-use Rattle.edges.specs.Gradient.{sumOf, share, dldr}
+use Rattle.geometry.specs.Arith.{floats}
+use Rattle.geometry.specs.Formula.{sumOf}
+use Rattle.edges.specs.Gradient.{share, dldr}
 use Rattle.edges.proofs.pairs.dldr.Statement.{statement}
 use Rattle.edges.proofs.pairs.dldr.Tie as tie
 
 abbrev Inv-loop : tie.InvT-loop
-Inv-loop pix2val dldw-pix2val num-vdim p q n at0 at1 sum₀ k₀ sum k = (k ≤ num-vdim) × (sum ≡ sumOf (λ j. share dldw-pix2val pix2val (p * num-vdim + j) (q * num-vdim + j)) k)
+Inv-loop pix2val dldw-pix2val num-vdim p q n at0 at1 sum₀ k₀ sum k = (k ≤ num-vdim) × (sum ≡ sumOf floats (λ j. share dldw-pix2val pix2val (p * num-vdim + j) (q * num-vdim + j)) k)
 
 abbrev μ-loop : tie.MeasureT-loop
 μ-loop pix2val dldw-pix2val num-vdim p q n at0 at1 sum₀ k₀ sum k = num-vdim - k
@@ -47,7 +49,7 @@ loop-again c = (omega arith, rw (add-one, ← (c .before .before .loop .inv .1),
 
 returns : tie.Need-returns Inv-loop μ-loop
 unfolding dldr
-returns c = let e : c .before .loop .k ≡ c .before .before .before .before .args .num-vdim = omega (arith, c .before .loop .inv .0) in c .before .loop .inv .1 ∙ ap (sumOf _) e
+returns c = let e : c .before .loop .k ≡ c .before .before .before .before .args .num-vdim = omega (arith, c .before .loop .inv .0) in c .before .loop .inv .1 ∙ ap (sumOf floats _) e
 
 pub dldr-spec : {M : Type 1} → statement M
 dldr-spec =

@@ -1,9 +1,8 @@
--- `piece::draw_screen`: off the image, between the centres, or a box.
+-- `piece::draw_screen`: between the centres, or a box.
 use borrow.Author.Needs.{needs}
-use borrow.Author.Tests.{not-true}
 use Rattle.layers.specs.Layer.{layer}
 use Rattle.raster.specs.Answer.{screenOf}
-use Rattle.raster.proofs.Painting.{off-columns, off-rows, thin, box-done}
+use Rattle.raster.proofs.Painting.{thin-columns, thin-rows, box-done}
 use Rattle.raster.proofs.piece.draw_screen.Statement.{statement}
 use Rattle.raster.proofs.piece.draw_screen.Tie as tie
 
@@ -13,15 +12,22 @@ least-requires c κs = search needs
 greatest-requires : tie.Need-greatest-requires
 greatest-requires c κs = search needs
 
-meets-requires : tie.Need-meets-requires
-meets-requires c κs = search needs
+first-reached-requires : tie.Need-first-reached-requires
+first-reached-requires c κs = search needs
+
+first-reached-requires-2 : tie.Need-first-reached-requires-2
+first-reached-requires-2 c κs = search needs
 
 returns : tie.Need-returns
 returns c =
-    let f = c .before .before .before .before .before .before in
+    let f = c .before .before .before .before .before .before .before in
     let a = f .args in
-    off-columns (screenOf (a .s)) (a .number) (a .w) (a .h) (layer (a .pix2tri .now) (a .pix2depth .now)) (f .pre .0) (f .pre .1) _ _ (c .before .before .before .least .ensures) (c .before .before .greatest .ensures)
-    (c .before .meets .ensures (not-true (c .before .meets .result) (c .if1 .taken)))
+    thin-columns (screenOf (a .s)) (a .number) (a .w) (a .h) (layer (a .pix2tri .now) (a .pix2depth .now)) (f .pre .0) (f .pre .1) _ _ _ _
+    (c .before .before .before .before .least .ensures)
+    (c .before .before .before .greatest .ensures)
+    (c .before .before .first-reached .ensures)
+    (c .before .first-reached2 .ensures)
+    (c .if1 .taken)
 
 least-requires-2 : tie.Need-least-requires-2
 least-requires-2 c κs = search needs
@@ -29,41 +35,22 @@ least-requires-2 c κs = search needs
 greatest-requires-2 : tie.Need-greatest-requires-2
 greatest-requires-2 c κs = search needs
 
-meets-requires-2 : tie.Need-meets-requires-2
-meets-requires-2 c κs = search needs
-
-returns-2 : tie.Need-returns-2
-returns-2 c =
-    let f = c .before .before .before .before .before .before .before .before .before .before in
-    let a = f .args in
-    off-rows (screenOf (a .s)) (a .number) (a .w) (a .h) (layer (a .pix2tri .now) (a .pix2depth .now)) (f .pre .0) (f .pre .1) _ _ (c .before .before .before .least2 .ensures) (c .before .before .greatest2 .ensures)
-    (c .before .meets2 .ensures (not-true (c .before .meets2 .result) (c .if2 .taken)))
-
-first-reached-requires : tie.Need-first-reached-requires
-first-reached-requires c κs = search needs
-
-first-reached-requires-2 : tie.Need-first-reached-requires-2
-first-reached-requires-2 c κs = search needs
-
-returns-3 : tie.Need-returns-3
-returns-3 c =
-    let f = c .before .before .before .before .before .before .before .before .before .before .before .before .before in
-    let a = f .args in
-    off-columns (screenOf (a .s)) (a .number) (a .w) (a .h) (layer (a .pix2tri .now) (a .pix2depth .now)) (f .pre .0) (f .pre .1) _ _ (c .before .before .before .before .before .before .before .before .before .before .least .ensures) (c .before .before .before .before .before .before .before .before .before .greatest .ensures)
-    (thin (screenOf (a .s)) (a .number) (a .w) (a .h) (layer (a .pix2tri .now) (a .pix2depth .now)) (f .pre .0) (f .pre .1) (c .before .before .before .before .before .before .before .before .before .before .least .result) (c .before .before .before .before .before .before .before .before .before .greatest .result) (a .w) _ _ (c .before .before .first-reached .ensures) (c .before .first-reached2 .ensures) (c .if3 .taken))
-
 first-reached-requires-3 : tie.Need-first-reached-requires-3
 first-reached-requires-3 c κs = search needs
 
 first-reached-requires-4 : tie.Need-first-reached-requires-4
 first-reached-requires-4 c κs = search needs
 
-returns-4 : tie.Need-returns-4
-returns-4 c =
-    let f = c .before .before .before .before .before .before .before .before .before .before .before .before .before .before .before .before in
+returns-2 : tie.Need-returns-2
+returns-2 c =
+    let f = c .before .before .before .before .before .before .before .before .before .before .before .before in
     let a = f .args in
-    off-rows (screenOf (a .s)) (a .number) (a .w) (a .h) (layer (a .pix2tri .now) (a .pix2depth .now)) (f .pre .0) (f .pre .1) _ _ (c .before .before .before .before .before .before .before .before .before .least2 .ensures) (c .before .before .before .before .before .before .before .before .greatest2 .ensures)
-    (thin (screenOf (a .s)) (a .number) (a .w) (a .h) (layer (a .pix2tri .now) (a .pix2depth .now)) (f .pre .0) (f .pre .1) (c .before .before .before .before .before .before .before .before .before .least2 .result) (c .before .before .before .before .before .before .before .before .greatest2 .result) (a .h) _ _ (c .before .before .first-reached3 .ensures) (c .before .first-reached4 .ensures) (c .if4 .taken))
+    thin-rows (screenOf (a .s)) (a .number) (a .w) (a .h) (layer (a .pix2tri .now) (a .pix2depth .now)) (f .pre .0) (f .pre .1) _ _ _ _
+    (c .before .before .before .before .least2 .ensures)
+    (c .before .before .before .greatest2 .ensures)
+    (c .before .before .first-reached3 .ensures)
+    (c .before .first-reached4 .ensures)
+    (c .if2 .taken)
 
 draw-box-requires : tie.Need-draw-box-requires
 draw-box-requires c κs = search needs
@@ -74,17 +61,17 @@ same-length c = search needs
 same-length-2 : tie.Need-same-length-2
 same-length-2 c = search needs
 
-returns-5 : tie.Need-returns-5
-returns-5 c =
-    let f = c .before .before .before .before .before .before .before .before .before .before .before .before .before .before .before .before .before .before .before .before .before .before .before in
+returns-3 : tie.Need-returns-3
+returns-3 c =
+    let f = c .before .before .before .before .before .before .before .before .before .before .before .before .before .before .before .before .before .before .before in
     let a = f .args in
     box-done (screenOf (a .s)) (a .number) (a .w) (a .h) (layer (a .pix2tri .now) (a .pix2depth .now)) _ (f .pre .0) _ _ _ _ _ _ _ _
-    (c .before .before .before .before .before .before .before .before .before .before .before .before .before .before .before .before .before .before .before .before .least .ensures)
-    (c .before .before .before .before .before .before .before .before .before .before .before .before .before .before .before .before .before .before .before .greatest .ensures)
-    (c .before .before .before .before .before .before .before .before .before .before .before .before .before .before .before .before .least2 .ensures)
-    (c .before .before .before .before .before .before .before .before .before .before .before .before .before .before .before .greatest2 .ensures)
-    (c .before .before .before .before .before .before .before .before .before .before .before .before .first-reached .ensures)
-    (c .before .before .before .before .before .before .before .before .before .before .before .first-reached2 .ensures)
+    (c .before .before .before .before .before .before .before .before .before .before .before .before .before .before .before .before .least .ensures)
+    (c .before .before .before .before .before .before .before .before .before .before .before .before .before .before .before .greatest .ensures)
+    (c .before .before .before .before .before .before .before .before .before .before .before .least2 .ensures)
+    (c .before .before .before .before .before .before .before .before .before .before .greatest2 .ensures)
+    (c .before .before .before .before .before .before .before .before .before .before .before .before .before .before .first-reached .ensures)
+    (c .before .before .before .before .before .before .before .before .before .before .before .before .before .first-reached2 .ensures)
     (c .before .before .before .before .before .before .before .before .before .first-reached3 .ensures)
     (c .before .before .before .before .before .before .before .before .first-reached4 .ensures)
     (c .before .before .before .before .draw-box .ensures)
@@ -95,19 +82,15 @@ draw-screen-spec =
     (tie.spec
     least-requires
     greatest-requires
-    meets-requires
+    first-reached-requires
+    first-reached-requires-2
     returns
     least-requires-2
     greatest-requires-2
-    meets-requires-2
-    returns-2
-    first-reached-requires
-    first-reached-requires-2
-    returns-3
     first-reached-requires-3
     first-reached-requires-4
-    returns-4
+    returns-2
     draw-box-requires
     same-length
     same-length-2
-    returns-5)
+    returns-3)

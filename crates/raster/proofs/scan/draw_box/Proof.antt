@@ -41,7 +41,7 @@ loop-again c =
     let m = c .before .before .before .before .before .before .before .before in
     let f = c .before .before .before .before .before .before .before .before .before .before .before in
     let a = f .args in
-    turn-next (λ (j : ℕ). boxCells (screenOf (a .s)) (a .number) (a .w) (a .x0) (a .x1) (a .y0) j) (layer (a .pix2tri .now) (a .pix2depth .now)) (a .w * a .h) (a .y0) (a .y1) (layer (m .loop .pix2tri) (m .loop .pix2depth)) _ (m .loop .iy) _ (omega arith) (m .loop .inv)
+    turn-next (λ (j : ℕ). boxCells (screenOf (a .s)) (a .number) (a .w) (a .x0) (a .x1) (a .y0) j) (layer (a .pix2tri .now) (a .pix2depth .now)) (a .w * a .h) (a .y0) (a .y1) (layer (m .loop .pix2tri) (m .loop .pix2depth)) _ (m .loop .iy) (m .loop .iy + 1) _ (omega arith) (omega arith) (m .loop .inv)
     (c .before .before .before .before .draw-row .ensures)
     (λ p h. box-rows (screenOf (a .s)) (a .number) (a .w) (a .x0) (a .x1) (a .y0) (m .loop .iy) (m .loop .iy + 1) (m .loop .inv .from) (omega arith) p)
 

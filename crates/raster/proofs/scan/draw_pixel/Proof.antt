@@ -6,7 +6,7 @@ use Rattle.questions.specs.Laws.{area}
 use Rattle.layers.specs.Layer.{layer}
 use Rattle.layers.specs.Laws.Pixels.{spans-reaches}
 use Rattle.raster.specs.Answer.{screenOf}
-use Rattle.raster.proofs.Boxes.{pixel-in}
+use Rattle.pixels.specs.Laws.{number-below}
 use Rattle.raster.proofs.Pixel.{pixel-done}
 use Rattle.raster.proofs.scan.draw_pixel.Statement.{statement}
 use Rattle.raster.proofs.scan.draw_pixel.Tie as tie
@@ -21,13 +21,13 @@ depth-at-requires : tie.Need-depth-at-requires
 depth-at-requires c κs = search needs
 
 mul-put : tie.Need-mul-put
-mul-put c = let f = c .before .before .before .before .before .before .before in let a = f .args in record { fits = omega (arith, pixel-in (a .w) (a .h) (a .ix) (a .iy) (f .pre .1 .1 .0) (f .pre .1 .1 .1), area 1 (a .w) (a .h) (f .pre .0)) }
+mul-put c = let f = c .before .before .before .before .before .before .before in let a = f .args in record { fits = omega (arith, number-below (f .pre .1 .1 .0) (f .pre .1 .1 .1), area 1 (a .w) (a .h) (f .pre .0)) }
 
 add-put : tie.Need-add-put
-add-put c = let f = c .before .before .before .before .before .before .before in let a = f .args in record { fits = omega (arith, pixel-in (a .w) (a .h) (a .ix) (a .iy) (f .pre .1 .1 .0) (f .pre .1 .1 .1), area 1 (a .w) (a .h) (f .pre .0)) }
+add-put c = let f = c .before .before .before .before .before .before .before in let a = f .args in record { fits = omega (arith, number-below (f .pre .1 .1 .0) (f .pre .1 .1 .1), area 1 (a .w) (a .h) (f .pre .0)) }
 
 put-requires : tie.Need-put-requires
-put-requires c κs = let f = c .before .before .before .before .before .before .before in let a = f .args in spans-reaches (f .pre .1 .0) _ (pixel-in (a .w) (a .h) (a .ix) (a .iy) (f .pre .1 .1 .0) (f .pre .1 .1 .1))
+put-requires c κs = let f = c .before .before .before .before .before .before .before in let a = f .args in spans-reaches (f .pre .1 .0) _ (number-below (f .pre .1 .1 .0) (f .pre .1 .1 .1))
 
 same-length : tie.Need-same-length
 same-length c = search needs
@@ -40,7 +40,7 @@ returns c =
     let f = c .before .before .before .before .before .before .before .before .before .before .before .before in
     let a = f .args in
     pixel-done (screenOf (a .s)) (a .number) (a .w) (a .ix) (a .iy) (a .w * a .h) (layer (a .pix2tri .now) (a .pix2depth .now)) (f .pre .1 .0)
-    (spans-reaches (f .pre .1 .0) _ (pixel-in (a .w) (a .h) (a .ix) (a .iy) (f .pre .1 .1 .0) (f .pre .1 .1 .1)))
+    (spans-reaches (f .pre .1 .0) _ (number-below (f .pre .1 .1 .0) (f .pre .1 .1 .1)))
     (f .pre .1 .1 .0)
     (c .before .before .before .before .before .before .before .before .before .centre .ensures)
     (c .before .before .before .before .before .before .before .before .centre2 .ensures)

@@ -1,6 +1,5 @@
 -- `scan::put`: one step of a cell, in the two lent slices.
 use borrow.Author.Needs.{needs}
-use Rattle.layers.specs.Cell.{cell, exceeds}
 use Rattle.layers.specs.Layer.{layer}
 use Rattle.raster.proofs.Pixel.{kept-step, taken-step}
 use Rattle.raster.proofs.scan.put.Statement.{statement}
@@ -31,16 +30,14 @@ same-length-2 : tie.Need-same-length-2
 same-length-2 c = search needs
 
 returns : tie.Need-returns
-unfolding exceeds
 returns c =
     let a = c .before .before .args in
-    taken-step (layer (a .pix2tri .now) (a .pix2depth .now)) (a .p) (cell (a .depth) (a .number)) (c .if1 .taken)
+    taken-step (layer (a .pix2tri .now) (a .pix2depth .now)) (a .p) (a .number) (a .depth) (c .if1 .taken)
 
 returns-2 : tie.Need-returns-2
-unfolding exceeds
 returns-2 c =
     let a = c .before .before .args in
-    kept-step (layer (a .pix2tri .now) (a .pix2depth .now)) (a .p) (cell (a .depth) (a .number)) (c .if1 .left)
+    kept-step (layer (a .pix2tri .now) (a .pix2depth .now)) (a .p) (a .number) (a .depth) (c .if1 .left)
 
 pub put-spec : {M : Type 1} → statement M
 put-spec =

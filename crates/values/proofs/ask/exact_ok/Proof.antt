@@ -1,9 +1,9 @@
 use borrow.Author.Tests.{eq-eqb, ne-eqb}
 use native.Mathlib.Omega.{arith}
 use Rattle.questions.specs.Questions.{exact}
-use Rattle.questions.specs.Laws.{area}
+use Rattle.questions.specs.Laws.{area, area-fits}
 use Rattle.values.specs.Questions.{exactCounts}
-use Rattle.values.specs.Laws.Pixels.{area-fits, few-fits}
+use Rattle.values.specs.Laws.Pixels.{few-fits}
 use Rattle.values.proofs.ask.exact_ok.Statement.{statement}
 use Rattle.values.proofs.ask.exact_ok.Tie as tie
 

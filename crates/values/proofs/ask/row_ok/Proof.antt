@@ -5,13 +5,14 @@ use mathlib.Core.Bool.{true}
 use mathlib.Core.List.{List}
 use native.Mathlib.Omega.{arith}
 use borrow.Author.Tests.{not-true, not-false}
+use Rattle.pixels.specs.Laws.{number-below}
 use Rattle.questions.specs.Questions.{every}
 use Rattle.questions.specs.Laws.{area}
 use Rattle.meshes.specs.View.{viewOf}
 use Rattle.values.specs.Pass.{image, span, rayOf}
 use Rattle.values.specs.Questions.{answered}
 use Rattle.values.specs.Laws.Ranges.{row-below, every-none, every-one, every-more, every-stopped, every-ended}
-use Rattle.values.specs.Laws.Pixels.{pixel-below, pixel-answer}
+use Rattle.values.specs.Laws.Pixels.{pixel-answer}
 use Rattle.values.proofs.ask.row_ok.Statement.{statement}
 use Rattle.values.proofs.ask.row_ok.Tie as tie
 
@@ -35,13 +36,13 @@ column-at-requires : tie.Need-column-at-requires Inv-loop μ-loop
 column-at-requires c κs = (search needs, search needs)
 
 add-pixel-ok : tie.Need-add-pixel-ok Inv-loop μ-loop
-add-pixel-ok c = record { fits = omega (arith, pixel-below (c .before .before .before .before .before .args .w) (c .before .before .before .before .before .args .h) (c .before .before .before .before .before .args .iy) (c .before .before .loop .ix) (c .before .before .before .before .before .pre .1 .1) (search needs), area 1 (c .before .before .before .before .before .args .w) (c .before .before .before .before .before .args .h) (c .before .before .before .before .before .pre .0)) }
+add-pixel-ok c = record { fits = omega (arith, number-below {w = c .before .before .before .before .before .args .w} {x = c .before .before .loop .ix} (search needs) (c .before .before .before .before .before .pre .1 .1), area 1 (c .before .before .before .before .before .args .w) (c .before .before .before .before .before .args .h) (c .before .before .before .before .before .pre .0)) }
 
 mul-pixel-ok : tie.Need-mul-pixel-ok Inv-loop μ-loop
-mul-pixel-ok c = record { fits = omega (arith, pixel-below (c .before .before .before .before .before .args .w) (c .before .before .before .before .before .args .h) (c .before .before .before .before .before .args .iy) (c .before .before .loop .ix) (c .before .before .before .before .before .pre .1 .1) (search needs), area 1 (c .before .before .before .before .before .args .w) (c .before .before .before .before .before .args .h) (c .before .before .before .before .before .pre .0)) }
+mul-pixel-ok c = record { fits = omega (arith, number-below {w = c .before .before .before .before .before .args .w} {x = c .before .before .loop .ix} (search needs) (c .before .before .before .before .before .pre .1 .1), area 1 (c .before .before .before .before .before .args .w) (c .before .before .before .before .before .args .h) (c .before .before .before .before .before .pre .0)) }
 
 shared-slice-read-pixel-ok : tie.Need-shared-slice-read-pixel-ok Inv-loop μ-loop
-shared-slice-read-pixel-ok c = omega (arith, pixel-below (c .before .before .before .before .before .before .args .w) (c .before .before .before .before .before .before .args .h) (c .before .before .before .before .before .before .args .iy) (c .before .before .before .loop .ix) (c .before .before .before .before .before .before .pre .1 .1) (search needs), area 1 (c .before .before .before .before .before .before .args .w) (c .before .before .before .before .before .before .args .h) (c .before .before .before .before .before .before .pre .0))
+shared-slice-read-pixel-ok c = omega (arith, number-below {w = c .before .before .before .before .before .before .args .w} {x = c .before .before .before .loop .ix} (search needs) (c .before .before .before .before .before .before .pre .1 .1), area 1 (c .before .before .before .before .before .before .args .w) (c .before .before .before .before .before .before .args .h) (c .before .before .before .before .before .before .pre .0))
 
 pixel-ok-requires : tie.Need-pixel-ok-requires Inv-loop μ-loop
 pixel-ok-requires c κs = search needs
@@ -55,7 +56,7 @@ returns c =
     every-stopped _ _ (at-loop .loop .ix) 1 (start .args .w) (search needs)
     (every-one _ _
     ∙ pixel-answer (start .args .w) (start .args .h) (start .args .m .now) tri (start .args .pix2tri .now) (start .args .iy) (at-loop .loop .ix) _ _ _ (search needs)
-    (omega (arith, pixel-below (start .args .w) (start .args .h) (start .args .iy) (at-loop .loop .ix) (start .pre .1 .1) (search needs), start .pre .1 .0)) (column .column-at .ensures) (at-loop .before .row-at .ensures) (c .before .pixel-ok .ensures tri)
+    (omega (arith, number-below {w = start .args .w} {x = at-loop .loop .ix} (search needs) (start .pre .1 .1), start .pre .1 .0)) (column .column-at .ensures) (at-loop .before .row-at .ensures) (c .before .pixel-ok .ensures tri)
     ∙ not-true _ (c .if1 .taken))
 
 add-ix : tie.Need-add-ix Inv-loop μ-loop
@@ -74,7 +75,7 @@ loop-again c =
           every-more _ _ (at-loop .loop .ix) 1 (at-loop .loop .inv .1 tri)
           (every-one _ _
           ∙ pixel-answer (start .args .w) (start .args .h) (start .args .m .now) tri (start .args .pix2tri .now) (start .args .iy) (at-loop .loop .ix) _ _ _ (search needs)
-          (omega (arith, pixel-below (start .args .w) (start .args .h) (start .args .iy) (at-loop .loop .ix) (start .pre .1 .1) (search needs), start .pre .1 .0)) (column .column-at .ensures) (at-loop .before .row-at .ensures) (c .before .pixel-ok .ensures tri)
+          (omega (arith, number-below {w = start .args .w} {x = at-loop .loop .ix} (search needs) (start .pre .1 .1), start .pre .1 .0)) (column .column-at .ensures) (at-loop .before .row-at .ensures) (c .before .pixel-ok .ensures tri)
           ∙ not-false _ (c .if1 .left)),
     )
 

@@ -1,4 +1,4 @@
-use Rattle.values.specs.Pass.{cornersAt}
+use Rattle.meshes.specs.Mesh.{cornersAt}
 use borrow.Author.Needs.{needs}
 use Rattle.values.proofs.face.corners.Statement.{statement}
 use Rattle.values.proofs.face.corners.Tie as tie

@@ -1,7 +1,8 @@
 use mathlib.Core.Path.{sym, _∙_, ap}
 use native.Mathlib.Omega.{arith}
 use Rattle.rays.specs.Answer.{pixelRayOf}
-use Rattle.values.specs.Laws.Asked.{named-empty, named-face, face-in}
+use Rattle.meshes.specs.Laws.{named-none}
+use Rattle.values.specs.Laws.Asked.{named-face, face-in}
 use Rattle.values.specs.Laws.Pixels.{vertex-fits}
 use Rattle.values.proofs.Values.{kept-empty, kept-nowhere, blended}
 use borrow.Author.Needs.{needs}
@@ -9,7 +10,7 @@ use Rattle.values.proofs.fill.pixel_values.Statement.{statement}
 use Rattle.values.proofs.fill.pixel_values.Tie as tie
 
 returns : tie.Need-returns
-returns c = kept-empty _ _ _ _ _ (c .before .before .before .before .before .pre .1 .1) (named-empty _ _ (c .if1 .taken))
+returns c = kept-empty _ _ _ _ _ (c .before .before .before .before .before .pre .1 .1) (named-none _ _ (c .if1 .taken))
 
 ray-at-requires : tie.Need-ray-at-requires
 ray-at-requires c κs = search needs

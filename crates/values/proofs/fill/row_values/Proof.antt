@@ -10,7 +10,7 @@ use Rattle.values.specs.Pass.{image, vertices}
 use Rattle.values.specs.Interpolate.{valueIn}
 use Rattle.values.specs.Steps.{filled}
 use Rattle.values.specs.Laws.Ranges.{row-below}
-use Rattle.values.specs.Laws.Pixels.{pixel-below, run-below, area-fits}
+use Rattle.values.specs.Laws.Pixels.{run-at}
 use Rattle.values.specs.Laws.Filled.{filled-none, filled-ended, length-lent}
 use Rattle.values.proofs.Values.{row-more, row-length}
 use Rattle.values.proofs.fill.row_values.Statement.{statement}
@@ -41,117 +41,63 @@ column-at-requires c κs = (omega (arith, c .before .before .before .before .bef
 add-p : tie.Need-add-p Inv-loop μ-loop
 add-p c =
     let start = c .before .before .before .before .before .before .before .before .before in
-    let ix = c .before .before .loop .ix in
-    let w = start .args .w in
-    let n = start .args .c in
-    let small = pixel-below w (start .args .h) (start .args .iy) ix (start .pre .1 .1 .1) (search needs) in
-    let run = run-below (start .args .iy * w + ix) (w * start .args .h) n small in
-    let most = area-fits w (start .args .h) n (start .pre .1 .0 .sized) (start .pre .0 .channels) in
-    let pixels = area 1 w (start .args .h) (start .pre .1 .0 .sized) in
+    let k = run-at {ix = c .before .before .loop .ix} (start .pre .1 .0 .sized) (start .pre .0 .channels) (search needs) (start .pre .1 .1 .1) in
     let whole = start .pre .1 .1 .0 in
     record { fits = omega arith }
 
 mul-at : tie.Need-mul-at Inv-loop μ-loop
 mul-at c =
     let start = c .before .before .before .before .before .before .before .before .before in
-    let ix = c .before .before .loop .ix in
-    let w = start .args .w in
-    let n = start .args .c in
-    let small = pixel-below w (start .args .h) (start .args .iy) ix (start .pre .1 .1 .1) (search needs) in
-    let run = run-below (start .args .iy * w + ix) (w * start .args .h) n small in
-    let most = area-fits w (start .args .h) n (start .pre .1 .0 .sized) (start .pre .0 .channels) in
-    let pixels = area 1 w (start .args .h) (start .pre .1 .0 .sized) in
+    let k = run-at {ix = c .before .before .loop .ix} (start .pre .1 .0 .sized) (start .pre .0 .channels) (search needs) (start .pre .1 .1 .1) in
     let whole = start .pre .1 .1 .0 in
     record { fits = omega arith }
 
 add-end : tie.Need-add-end Inv-loop μ-loop
 add-end c =
     let start = c .before .before .before .before .before .before .before .before .before in
-    let ix = c .before .before .loop .ix in
-    let w = start .args .w in
-    let n = start .args .c in
-    let small = pixel-below w (start .args .h) (start .args .iy) ix (start .pre .1 .1 .1) (search needs) in
-    let run = run-below (start .args .iy * w + ix) (w * start .args .h) n small in
-    let most = area-fits w (start .args .h) n (start .pre .1 .0 .sized) (start .pre .0 .channels) in
-    let pixels = area 1 w (start .args .h) (start .pre .1 .0 .sized) in
+    let k = run-at {ix = c .before .before .loop .ix} (start .pre .1 .0 .sized) (start .pre .0 .channels) (search needs) (start .pre .1 .1 .1) in
     let whole = start .pre .1 .1 .0 in
     record { fits = omega arith }
 
 mul-pixel-values : tie.Need-mul-pixel-values Inv-loop μ-loop
 mul-pixel-values c =
     let start = c .before .before .before .before .before .before .before .before .before in
-    let ix = c .before .before .loop .ix in
-    let w = start .args .w in
-    let n = start .args .c in
-    let small = pixel-below w (start .args .h) (start .args .iy) ix (start .pre .1 .1 .1) (search needs) in
-    let run = run-below (start .args .iy * w + ix) (w * start .args .h) n small in
-    let most = area-fits w (start .args .h) n (start .pre .1 .0 .sized) (start .pre .0 .channels) in
-    let pixels = area 1 w (start .args .h) (start .pre .1 .0 .sized) in
+    let k = run-at {ix = c .before .before .loop .ix} (start .pre .1 .0 .sized) (start .pre .0 .channels) (search needs) (start .pre .1 .1 .1) in
     let whole = start .pre .1 .1 .0 in
     record { fits = omega arith }
 
 sub-pixel-values : tie.Need-sub-pixel-values Inv-loop μ-loop
 sub-pixel-values c =
     let start = c .before .before .before .before .before .before .before .before .before in
-    let ix = c .before .before .loop .ix in
-    let w = start .args .w in
-    let n = start .args .c in
-    let small = pixel-below w (start .args .h) (start .args .iy) ix (start .pre .1 .1 .1) (search needs) in
-    let run = run-below (start .args .iy * w + ix) (w * start .args .h) n small in
-    let most = area-fits w (start .args .h) n (start .pre .1 .0 .sized) (start .pre .0 .channels) in
-    let pixels = area 1 w (start .args .h) (start .pre .1 .0 .sized) in
+    let k = run-at {ix = c .before .before .loop .ix} (start .pre .1 .0 .sized) (start .pre .0 .channels) (search needs) (start .pre .1 .1 .1) in
     let whole = start .pre .1 .1 .0 in
     omega arith
 
 part-pixel-values-start : tie.Need-part-pixel-values-start Inv-loop μ-loop
 part-pixel-values-start c =
     let start = c .before .before .before .before .before .before .before .before .before in
-    let ix = c .before .before .loop .ix in
-    let w = start .args .w in
-    let n = start .args .c in
-    let small = pixel-below w (start .args .h) (start .args .iy) ix (start .pre .1 .1 .1) (search needs) in
-    let run = run-below (start .args .iy * w + ix) (w * start .args .h) n small in
-    let most = area-fits w (start .args .h) n (start .pre .1 .0 .sized) (start .pre .0 .channels) in
-    let pixels = area 1 w (start .args .h) (start .pre .1 .0 .sized) in
+    let k = run-at {ix = c .before .before .loop .ix} (start .pre .1 .0 .sized) (start .pre .0 .channels) (search needs) (start .pre .1 .1 .1) in
     let whole = start .pre .1 .1 .0 in
     omega (arith, c .before .before .loop .inv .1)
 
 part-pixel-values-end : tie.Need-part-pixel-values-end Inv-loop μ-loop
 part-pixel-values-end c =
     let start = c .before .before .before .before .before .before .before .before .before in
-    let ix = c .before .before .loop .ix in
-    let w = start .args .w in
-    let n = start .args .c in
-    let small = pixel-below w (start .args .h) (start .args .iy) ix (start .pre .1 .1 .1) (search needs) in
-    let run = run-below (start .args .iy * w + ix) (w * start .args .h) n small in
-    let most = area-fits w (start .args .h) n (start .pre .1 .0 .sized) (start .pre .0 .channels) in
-    let pixels = area 1 w (start .args .h) (start .pre .1 .0 .sized) in
+    let k = run-at {ix = c .before .before .loop .ix} (start .pre .1 .0 .sized) (start .pre .0 .channels) (search needs) (start .pre .1 .1 .1) in
     let whole = start .pre .1 .1 .0 in
     omega (arith, c .before .before .loop .inv .1)
 
 mul-pixel-values-2 : tie.Need-mul-pixel-values-2 Inv-loop μ-loop
 mul-pixel-values-2 c =
     let start = c .before .before .before .before .before .before .before .before .before .before in
-    let ix = c .before .before .before .loop .ix in
-    let w = start .args .w in
-    let n = start .args .c in
-    let small = pixel-below w (start .args .h) (start .args .iy) ix (start .pre .1 .1 .1) (search needs) in
-    let run = run-below (start .args .iy * w + ix) (w * start .args .h) n small in
-    let most = area-fits w (start .args .h) n (start .pre .1 .0 .sized) (start .pre .0 .channels) in
-    let pixels = area 1 w (start .args .h) (start .pre .1 .0 .sized) in
+    let k = run-at {ix = c .before .before .before .loop .ix} (start .pre .1 .0 .sized) (start .pre .0 .channels) (search needs) (start .pre .1 .1 .1) in
     let whole = start .pre .1 .1 .0 in
     record { fits = omega arith }
 
 shared-slice-read-pixel-values : tie.Need-shared-slice-read-pixel-values Inv-loop μ-loop
 shared-slice-read-pixel-values c =
     let start = c .before .before .before .before .before .before .before .before .before .before .before in
-    let ix = c .before .before .before .before .loop .ix in
-    let w = start .args .w in
-    let n = start .args .c in
-    let small = pixel-below w (start .args .h) (start .args .iy) ix (start .pre .1 .1 .1) (search needs) in
-    let run = run-below (start .args .iy * w + ix) (w * start .args .h) n small in
-    let most = area-fits w (start .args .h) n (start .pre .1 .0 .sized) (start .pre .0 .channels) in
-    let pixels = area 1 w (start .args .h) (start .pre .1 .0 .sized) in
+    let k = run-at {ix = c .before .before .before .before .loop .ix} (start .pre .1 .0 .sized) (start .pre .0 .channels) (search needs) (start .pre .1 .1 .1) in
     let whole = start .pre .1 .1 .0 in
     omega (arith, start .pre .1 .0 .whole)
 
@@ -161,13 +107,10 @@ pixel-values-requires c κs =
     let ix = c .before .before .before .before .loop .ix in
     let w = start .args .w in
     let n = start .args .c in
-    let small = pixel-below w (start .args .h) (start .args .iy) ix (start .pre .1 .1 .1) (search needs) in
-    let run = run-below (start .args .iy * w + ix) (w * start .args .h) n small in
-    let most = area-fits w (start .args .h) n (start .pre .1 .0 .sized) (start .pre .0 .channels) in
-    let pixels = area 1 w (start .args .h) (start .pre .1 .0 .sized) in
+    let k = run-at {ix = ix} (start .pre .1 .0 .sized) (start .pre .0 .channels) (search needs) (start .pre .1 .1 .1) in
     let whole = start .pre .1 .1 .0 in (
       start .pre .0,
-      (start .pre .1 .0 .entries (start .args .iy * w + ix) small, length-lent ((start .args .iy * w + ix) * n) n (c .before .before .before .before .loop .pix2val) (omega (arith, c .before .before .before .before .loop .inv .1))),
+      (start .pre .1 .0 .entries (start .args .iy * w + ix) (k .below), length-lent ((start .args .iy * w + ix) * n) n (c .before .before .before .before .loop .pix2val) (omega (arith, c .before .before .before .before .loop .inv .1))),
     )
 
 add-ix : tie.Need-add-ix Inv-loop μ-loop
@@ -182,10 +125,7 @@ loop-again c =
     let ix = c .before .before .before .before .before .before .before .loop .ix in
     let w = start .args .w in
     let n = start .args .c in
-    let small = pixel-below w (start .args .h) (start .args .iy) ix (start .pre .1 .1 .1) (search needs) in
-    let run = run-below (start .args .iy * w + ix) (w * start .args .h) n small in
-    let most = area-fits w (start .args .h) n (start .pre .1 .0 .sized) (start .pre .0 .channels) in
-    let pixels = area 1 w (start .args .h) (start .pre .1 .0 .sized) in
+    let k = run-at {ix = ix} (start .pre .1 .0 .sized) (start .pre .0 .channels) (search needs) (start .pre .1 .1 .1) in
     let whole = start .pre .1 .1 .0 in
     let column = c .before .before .before .before .before in
     let at-loop = column .before .before in

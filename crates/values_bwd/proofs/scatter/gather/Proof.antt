@@ -5,6 +5,7 @@ use native.Mathlib.Omega.{arith}
 use lib.Ieee.{nan}
 use lib.ListN.{getD}
 use Rattle.geometry.specs.Arith.{floats}
+use Rattle.geometry.specs.Formula.{sumOf}
 use Rattle.values_bwd.specs.Gather.{gathered}
 use Rattle.values_bwd.specs.Bwd.{incomingAt}
 use Rattle.values_bwd.specs.Laws.Sums.{gathered-more, three-ended}
@@ -21,7 +22,7 @@ abbrev μ-loop : tie.MeasureT-loop
 μ-loop vtx2val a0 a1 a2 dldw at c b0₀ b1₀ b2₀ j₀ b0 b1 b2 j = c - j
 
 loop-holds : tie.Need-loop-holds Inv-loop μ-loop
-unfolding gathered
+unfolding gathered sumOf
 loop-holds c = (search needs, refl, refl, refl)
 
 add-d : tie.Need-add-d Inv-loop μ-loop

@@ -3,14 +3,15 @@ use mathlib.Core.Path.{sym, _∙_, ap}
 use native.Mathlib.Omega.{arith}
 use lib.ListN.{length}
 use Rattle.rays.specs.Answer.{pixelRayOf}
-use Rattle.values.specs.Laws.Asked.{named-empty, named-face, face-in}
+use Rattle.meshes.specs.Laws.{named-none}
+use Rattle.values.specs.Laws.Asked.{named-face, face-in}
 use Rattle.values_bwd.proofs.Bwd.{nothing-empty, nothing-nowhere, pixel-sums}
 use borrow.Author.Needs.{needs}
 use Rattle.values_bwd.proofs.scatter.pixel_bwd.Statement.{statement}
 use Rattle.values_bwd.proofs.scatter.pixel_bwd.Tie as tie
 
 returns : tie.Need-returns
-returns c = nothing-empty _ _ _ _ _ _ (named-empty _ _ (c .if1 .taken))
+returns c = nothing-empty _ _ _ _ _ _ (named-none _ _ (c .if1 .taken))
 
 ray-at-requires : tie.Need-ray-at-requires
 ray-at-requires c κs = search needs

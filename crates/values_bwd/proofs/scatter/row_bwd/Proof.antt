@@ -7,7 +7,7 @@ use Rattle.questions.specs.Laws.{area}
 use Rattle.meshes.specs.View.{viewOf}
 use Rattle.values.specs.Pass.{image, vertices}
 use Rattle.values.specs.Laws.Ranges.{row-below}
-use Rattle.values.specs.Laws.Pixels.{pixel-below, run-below, area-fits}
+use Rattle.values.specs.Laws.Pixels.{run-at}
 use Rattle.values_bwd.specs.Bwd.{sums, summedOver}
 use Rattle.values_bwd.specs.Laws.Sums.{over-none, over-more, over-ended}
 use Rattle.values_bwd.proofs.Bwd.{pixel-turn}
@@ -39,65 +39,36 @@ column-at-requires c κs = (omega (arith, c .before .before .before .before .bef
 add-p : tie.Need-add-p Inv-loop μ-loop
 add-p c =
     let start = c .before .before .before .before .before .before .before .before .before .before .before in
-    let ix = c .before .before .loop .ix in
-    let w = start .args .w in
-    let n = start .args .c in
-    let small = pixel-below w (start .args .h) (start .args .iy) ix (start .pre .1 .1 .1 .1 .1) (search needs) in
-    let run = run-below (start .args .iy * w + ix) (w * start .args .h) n small in
-    let most = area-fits w (start .args .h) n (start .pre .1 .0 .sized) (start .pre .0 .channels) in
-    let pixels = area 1 w (start .args .h) (start .pre .1 .0 .sized) in
+    let k = run-at {ix = c .before .before .loop .ix} (start .pre .1 .0 .sized) (start .pre .0 .channels) (search needs) (start .pre .1 .1 .1 .1 .1) in
     record { fits = omega arith }
 
 mul-pixel-bwd : tie.Need-mul-pixel-bwd Inv-loop μ-loop
 mul-pixel-bwd c =
     let start = c .before .before .before .before .before .before .before .before .before .before .before .before .before in
-    let ix = c .before .before .before .before .loop .ix in
-    let w = start .args .w in
-    let n = start .args .c in
-    let small = pixel-below w (start .args .h) (start .args .iy) ix (start .pre .1 .1 .1 .1 .1) (search needs) in
-    let run = run-below (start .args .iy * w + ix) (w * start .args .h) n small in
-    let most = area-fits w (start .args .h) n (start .pre .1 .0 .sized) (start .pre .0 .channels) in
-    let pixels = area 1 w (start .args .h) (start .pre .1 .0 .sized) in
+    let k = run-at {ix = c .before .before .before .before .loop .ix} (start .pre .1 .0 .sized) (start .pre .0 .channels) (search needs) (start .pre .1 .1 .1 .1 .1) in
     record { fits = omega arith }
 
 shared-slice-read-pixel-bwd : tie.Need-shared-slice-read-pixel-bwd Inv-loop μ-loop
 shared-slice-read-pixel-bwd c =
     let start = c .before .before .before .before .before .before .before .before .before .before .before .before .before .before in
-    let ix = c .before .before .before .before .before .loop .ix in
-    let w = start .args .w in
-    let n = start .args .c in
-    let small = pixel-below w (start .args .h) (start .args .iy) ix (start .pre .1 .1 .1 .1 .1) (search needs) in
-    let run = run-below (start .args .iy * w + ix) (w * start .args .h) n small in
-    let most = area-fits w (start .args .h) n (start .pre .1 .0 .sized) (start .pre .0 .channels) in
-    let pixels = area 1 w (start .args .h) (start .pre .1 .0 .sized) in
+    let k = run-at {ix = c .before .before .before .before .before .loop .ix} (start .pre .1 .0 .sized) (start .pre .0 .channels) (search needs) (start .pre .1 .1 .1 .1 .1) in
     omega (arith, start .pre .1 .0 .whole)
 
 mul-pixel-bwd-2 : tie.Need-mul-pixel-bwd-2 Inv-loop μ-loop
 mul-pixel-bwd-2 c =
     let start = c .before .before .before .before .before .before .before .before .before .before .before .before .before .before in
-    let ix = c .before .before .before .before .before .loop .ix in
-    let w = start .args .w in
-    let n = start .args .c in
-    let small = pixel-below w (start .args .h) (start .args .iy) ix (start .pre .1 .1 .1 .1 .1) (search needs) in
-    let run = run-below (start .args .iy * w + ix) (w * start .args .h) n small in
-    let most = area-fits w (start .args .h) n (start .pre .1 .0 .sized) (start .pre .0 .channels) in
-    let pixels = area 1 w (start .args .h) (start .pre .1 .0 .sized) in
+    let k = run-at {ix = c .before .before .before .before .before .loop .ix} (start .pre .1 .0 .sized) (start .pre .0 .channels) (search needs) (start .pre .1 .1 .1 .1 .1) in
     record { fits = omega arith }
 
 pixel-bwd-requires : tie.Need-pixel-bwd-requires Inv-loop μ-loop
 pixel-bwd-requires c κs =
     let start = c .before .before .before .before .before .before .before .before .before .before .before .before .before .before in
     let ix = c .before .before .before .before .before .loop .ix in
-    let w = start .args .w in
-    let n = start .args .c in
-    let small = pixel-below w (start .args .h) (start .args .iy) ix (start .pre .1 .1 .1 .1 .1) (search needs) in
-    let run = run-below (start .args .iy * w + ix) (w * start .args .h) n small in
-    let most = area-fits w (start .args .h) n (start .pre .1 .0 .sized) (start .pre .0 .channels) in
-    let pixels = area 1 w (start .args .h) (start .pre .1 .0 .sized) in
+    let k = run-at {ix = ix} (start .pre .1 .0 .sized) (start .pre .0 .channels) (search needs) (start .pre .1 .1 .1 .1 .1) in
     let at-loop = c .before .before .before .before .before in (
       start .pre .0,
       (
-        start .pre .1 .0 .entries (start .args .iy * w + ix) small,
+        start .pre .1 .0 .entries (start .args .iy * start .args .w + ix) (k .below),
         (at-loop .loop .inv .1 ∙ start .pre .1 .1 .0, (at-loop .loop .inv .2 ∙ start .pre .1 .1 .1 .0, omega (arith, start .pre .1 .1 .1 .1 .0))),
       ),
     )
@@ -114,10 +85,7 @@ loop-again c =
     let ix = c .before .before .before .before .before .before .before .before .before .before .loop .ix in
     let w = start .args .w in
     let n = start .args .c in
-    let small = pixel-below w (start .args .h) (start .args .iy) ix (start .pre .1 .1 .1 .1 .1) (search needs) in
-    let run = run-below (start .args .iy * w + ix) (w * start .args .h) n small in
-    let most = area-fits w (start .args .h) n (start .pre .1 .0 .sized) (start .pre .0 .channels) in
-    let pixels = area 1 w (start .args .h) (start .pre .1 .0 .sized) in
+    let k = run-at {ix = ix} (start .pre .1 .0 .sized) (start .pre .0 .channels) (search needs) (start .pre .1 .1 .1 .1 .1) in
     let column = c .before .before .before .before .before .before .before .before in
     let at-loop = column .before .before in (
       search needs,

@@ -1,6 +1,5 @@
 -- `words::slices::write_bytes` is safe and ends. Nothing has to hold from turn to turn; the measure is what is left of the slice.
 -- Assumes nothing.
-use borrow.Author.Needs.{needs}
 use Prim.Native.Nat.{_-_}
 use native.Mathlib.Omega.{arith}
 use lib.ListN.{length}

@@ -1,2 +1,0 @@
--- Laws of the pass.
-pub mod Sums

@@ -1,0 +1,178 @@
+//! Reads how a connector housing sits, by fitting its mesh to a picture; then fits it again with a face deleted and
+//! with the mesh cut, drawn in runs and joined, and holds every number of every iteration to the same bits.
+//!
+//! `cargo run --release --offline --example fit -- FOLDER` writes the pictures there (`target/fit` where none is named).
+#[path = "fit/camera.rs"]
+mod camera;
+#[path = "fit/housing.rs"]
+mod housing;
+#[path = "fit/pictures.rs"]
+mod pictures;
+#[path = "fit/png.rs"]
+mod png;
+#[path = "fit/pose.rs"]
+mod pose;
+#[path = "fit/scene.rs"]
+mod scene;
+
+use housing::CHANNELS;
+use pose::Pose;
+use scene::{Scene, Seen, Way};
+use std::path::PathBuf;
+
+type Failure = Box<dyn std::error::Error>;
+
+const ITERATIONS: usize = 160;
+const HIDDEN: [f64; 6] = [0.9, -0.7, 0.8, 0.05, -0.06, 0.10];
+const START: [f64; 6] = [-1.2, 1.1, -0.6, -0.04, 0.05, -0.12];
+
+/// What each iteration saw, and its seating error in millimetres.
+type Record = Vec<(Seen, f64)>;
+
+fn main() -> Result<(), Failure> {
+    let folder = PathBuf::from(std::env::args().nth(1).unwrap_or("target/fit".into()));
+    let scene = Scene::new(Pose::seated().moved(&HIDDEN))?;
+    let num_tri = scene.housing.tri2vtx.len() / 3;
+    let (img_w, img_h) = (scene.camera.img_w, scene.camera.img_h);
+    println!("a housing of {num_tri} faces, a picture of {img_w} x {img_h}, {CHANNELS} channels\n");
+    let whole = whole_fit(&scene)?;
+    let (before, after) = (&whole[0], &whole[ITERATIONS]);
+    println!(
+        "\nseating error {:.3} mm before, {:.3} mm after",
+        before.1, after.1
+    );
+    std::fs::create_dir_all(&folder)?;
+    pictures::write(&folder, &scene, &before.0, &after.0)?;
+    println!("pictures in {}\n", folder.display());
+    println!("the same fit in other ways, each iteration held to the bits of the one above:");
+    for way in other_ways(&scene, &whole) {
+        let numbers = same_bits(&scene, &way, &whole)?;
+        println!("{way}: {numbers} numbers, all the same");
+    }
+    Ok(())
+}
+
+fn whole_fit(scene: &Scene) -> Result<Record, Failure> {
+    let mut record = Record::new();
+    println!("iteration  residual  seating error");
+    fit(scene, &Way::default(), |iteration, now, error| {
+        if iteration % 10 == 0 {
+            println!("{iteration:9}  {:8.5}  {error:10.3} mm", now.residual);
+        }
+        record.push((now, error));
+        Ok(())
+    })?;
+    Ok(record)
+}
+
+/// One face deleted that held no pixel in any iteration; all such faces; the mesh cut in runs; and both.
+fn other_ways(scene: &Scene, whole: &Record) -> [Way; 4] {
+    let num_tri = scene.housing.tri2vtx.len() as u32 / 3;
+    let holds = |n: &u32| whole.iter().any(|(now, _)| now.layer.pix2tri.contains(n));
+    let unseen: Vec<u32> = (0..num_tri).filter(|n| !holds(n)).collect();
+    let ways = [
+        (&unseen[..1], false),
+        (&unseen, false),
+        (&[], true),
+        (&unseen, true),
+    ];
+    ways.map(|(removed, in_runs)| Way {
+        removed: removed.to_vec(),
+        in_runs,
+    })
+}
+
+/// Fits in another way, and fails at the first iteration with a number that is not the whole drawing's.
+fn same_bits(scene: &Scene, way: &Way, whole: &Record) -> Result<usize, Failure> {
+    let mut numbers = 0;
+    fit(scene, way, |iteration, now, error| {
+        let compared = now.compared(&whole[iteration].0, way);
+        numbers += compared.map_err(|what| format!("{way}: iteration {iteration}: {what}"))?;
+        if error.to_bits() != whole[iteration].1.to_bits() {
+            return Err(format!("{way}: iteration {iteration}: the poses differ").into());
+        }
+        Ok(())
+    })?;
+    Ok(numbers)
+}
+
+/// Goes from the start down the gradient, by steps that Adam's rule sizes, and shows what each iteration sees, with
+/// the greatest distance of a corner of the foot from where it is in the hidden pose.
+fn fit(
+    scene: &Scene,
+    way: &Way,
+    mut shown: impl FnMut(usize, Seen, f64) -> Result<(), Failure>,
+) -> Result<(), Failure> {
+    let mut pose = Pose::seated().moved(&START);
+    let mut adam = Adam::default();
+    for iteration in 0..=ITERATIONS {
+        let error = pose.apart(&scene.hidden, &scene.housing.foot);
+        let now = scene.seen(&pose, way, iteration)?;
+        let gradient = pose.gradient(&scene.housing.points, &now.dldw_vtx2xyz);
+        let left = 1.0 - iteration as f64 / ITERATIONS as f64;
+        pose = pose.moved(&adam.step(&gradient, 0.25 * left * left + 0.002));
+        shown(iteration, now, error)?;
+    }
+    Ok(())
+}
+
+/// Running means of the gradient and of its square.
+#[derive(Default)]
+struct Adam {
+    mean: [f64; 6],
+    square: [f64; 6],
+    steps: i32,
+}
+
+impl Adam {
+    /// A step against the gradient, about `size` millimetres long in each of the six directions.
+    fn step(&mut self, gradient: &[f64; 6], size: f64) -> [f64; 6] {
+        self.steps += 1;
+        std::array::from_fn(|k| {
+            // A turn is measured by how far it moves a point 10 mm off.
+            let arm = if k < 3 { 1.0 } else { 10.0 };
+            let g = gradient[k] / arm;
+            self.mean[k] += 0.2 * (g - self.mean[k]);
+            self.square[k] += 0.05 * (g * g - self.square[k]);
+            let mean = self.mean[k] / (1.0 - 0.8f64.powi(self.steps));
+            let square = self.square[k] / (1.0 - 0.95f64.powi(self.steps));
+            -size * mean / (square.sqrt() + 1e-12) / arm
+        })
+    }
+}
+
+#[cfg(test)]
+mod tests {
+    use super::*;
+
+    fn scene() -> Scene {
+        Scene::new(Pose::seated().moved(&HIDDEN)).expect("the target is drawn")
+    }
+
+    /// The fit ends seated, and every other way has its bits at every iteration.
+    #[test]
+    fn story() {
+        let scene = scene();
+        let whole = whole_fit(&scene).expect("every call is accepted");
+        assert!(whole[0].1 > 5.0 && whole[ITERATIONS].1 < 0.05);
+        for way in other_ways(&scene, &whole) {
+            let numbers = same_bits(&scene, &way, &whole).expect("the same bits");
+            assert!(numbers > 10_000_000);
+        }
+    }
+
+    /// A face that holds pixels is missed when it is taken out.
+    #[test]
+    fn story_can_fail() {
+        let scene = scene();
+        let pose = Pose::seated().moved(&START);
+        let whole = scene.seen(&pose, &Way::default(), 0).expect("accepted");
+        let shown = whole.layer.pix2tri.iter().find(|&&n| n != u32::MAX);
+        let way = Way {
+            removed: vec![*shown.expect("a pixel is covered")],
+            in_runs: false,
+        };
+        let other = scene.seen(&pose, &way, 0).expect("accepted");
+        assert!(other.compared(&whole, &way).is_err());
+    }
+}

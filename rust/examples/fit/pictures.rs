@@ -1,0 +1,102 @@
+//! The pictures that the example writes, each pixel shown as a square of several.
+use crate::housing::CHANNELS;
+use crate::png;
+use crate::scene::{Scene, Seen};
+use std::error::Error;
+use std::path::Path;
+
+const SQUARE: usize = 4;
+
+/// Target, start, fitted, and the start's edge gradients.
+pub fn write(
+    folder: &Path,
+    scene: &Scene,
+    before: &Seen,
+    after: &Seen,
+) -> Result<(), Box<dyn Error>> {
+    let edges = edges(scene, before)?;
+    for (name, values) in [
+        ("target", &scene.target),
+        ("start", &before.pix2val),
+        ("fitted", &after.pix2val),
+        ("edge-gradients", &edges),
+    ] {
+        let img_w = scene.camera.img_w;
+        let rgb = squares(img_w, &coloured(values));
+        png::write(&folder.join(format!("{name}.png")), SQUARE * img_w, &rgb)?;
+    }
+    Ok(())
+}
+
+/// Bytes, with the screen's own brightness curve.
+fn coloured(values: &[f32]) -> Vec<u8> {
+    let byte = |v: &f32| (255.0 * v.clamp(0.0, 1.0).powf(1.0 / 2.2)).round() as u8;
+    values.iter().map(byte).collect()
+}
+
+/// Each pixel repeated to a square.
+fn squares(img_w: usize, rgb: &[u8]) -> Vec<u8> {
+    let wide = |row: &[u8]| -> Vec<u8> {
+        row.chunks(3)
+            .flat_map(|pixel| pixel.repeat(SQUARE))
+            .collect()
+    };
+    rgb.chunks(3 * img_w)
+        .flat_map(|row| wide(row).repeat(SQUARE))
+        .collect()
+}
+
+/// The picture darkened, and on it the pixels beside an edge of type 1: red where the residual rises as the edge goes
+/// right or down, blue where it falls.
+fn edges(scene: &Scene, seen: &Seen) -> Result<Vec<f32>, Box<dyn Error>> {
+    let (img_w, img_h) = (scene.camera.img_w, scene.camera.img_h);
+    let (num_h, num_v) = ((img_h - 1) * img_w, img_h * (img_w - 1));
+    let (mut hedge2type, mut hedge2dldr) = (vec![0; num_h], vec![0.; num_h]);
+    let (mut vedge2type, mut vedge2dldr) = (vec![0; num_v], vec![0.; num_v]);
+    paqelzim::edge_gradient_and_type(
+        &scene.housing.tri2vtx,
+        &seen.vtx2xyz,
+        &scene.camera.world2pix,
+        img_w,
+        img_h,
+        &seen.layer.pix2tri,
+        CHANNELS,
+        &seen.pix2val,
+        &seen.dldw_pix2val,
+        &mut hedge2type,
+        &mut hedge2dldr,
+        &mut vedge2type,
+        &mut vedge2dldr,
+    )?;
+    let mut pix2dldr = vec![0f32; img_w * img_h];
+    for (i, dldr) in hedge2dldr
+        .iter()
+        .enumerate()
+        .filter(|&(i, _)| hedge2type[i] == 1)
+    {
+        pix2dldr[i] += dldr;
+        pix2dldr[i + img_w] += dldr;
+    }
+    for (i, dldr) in vedge2dldr
+        .iter()
+        .enumerate()
+        .filter(|&(i, _)| vedge2type[i] == 1)
+    {
+        let pixel = i / (img_w - 1) * img_w + i % (img_w - 1);
+        pix2dldr[pixel] += dldr;
+        pix2dldr[pixel + 1] += dldr;
+    }
+    Ok(tinted(&seen.pix2val, &pix2dldr))
+}
+
+fn tinted(pix2val: &[f32], pix2dldr: &[f32]) -> Vec<f32> {
+    let greatest = pix2dldr
+        .iter()
+        .fold(f32::MIN_POSITIVE, |m, d| m.max(d.abs()));
+    let mut values: Vec<f32> = pix2val.iter().map(|v| 0.15 * v).collect();
+    for (pixel, dldr) in values.chunks_mut(CHANNELS).zip(pix2dldr) {
+        let share = (dldr.abs() / greatest).sqrt();
+        pixel[if *dldr > 0.0 { 0 } else { 2 }] += share;
+    }
+    values
+}
