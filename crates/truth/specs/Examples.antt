@@ -7,7 +7,7 @@ use lib.Dec.{lit≤}
 use lib.ListN.{getD, replicate}
 use lib.IntN.{pos, negsuc}
 use Rattle.geometry.specs.Vector.{Vec3, vec3, Triangle, triangle}
-use Rattle.geometry.specs.Formula.{blend}
+use Rattle.geometry.specs.Formula.{sumOf, blend}
 use Rattle.rays.specs.Space.{Ray, ray, minus3, dot3, cross3, scaled3}
 use Rattle.rays.specs.Plane.{normal}
 use Rattle.rays.specs.Backward.{framed, frameOf, meetsU, meetsV, weighted, gradientOn, gradient, shares, shared, backwardOn, planeBackward}
@@ -79,7 +79,7 @@ pub shares-are : gradientsAt rationals T line values incoming1 1 .to
     ≡ triangle (vec3 (less 0) (less 1) (whole 0))
     (vec3 (over (negsuc 0) (pos 4) tt) (over (negsuc 0) (pos 2) tt) (whole 0))
     (vec3 (over (negsuc 2) (pos 4) tt) (over (negsuc 2) (pos 2) tt) (whole 0))
-unfolding gradientsAt backward incoming gathered planeBackward backwardOn shared shares scaled3 gradient gradientOn weighted meetsU meetsV frameOf framed minus3 dot3 cross3
+unfolding gradientsAt backward incoming gathered sumOf planeBackward backwardOn shared shares scaled3 gradient gradientOn weighted meetsU meetsV frameOf framed minus3 dot3 cross3
 shares-are =
     sameT (same3 (alike _ _ refl) (alike _ _ refl) (alike _ _ refl)) (same3 (alike _ _ refl) (alike _ _ refl) (alike _ _ refl))
     (same3 (alike _ _ refl) (alike _ _ refl) (alike _ _ refl))

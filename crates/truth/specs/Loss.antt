@@ -4,7 +4,7 @@ use mathlib.Core.Path.{_≡_, refl, _∙_, ap}
 use mathlib.Core.List.{[], _∷_}
 use Rattle.geometry.specs.Arith.{Arith}
 use Rattle.geometry.specs.Vector.{Vec3, Weights, weights, Triangle}
-use Rattle.geometry.specs.Formula.{blend}
+use Rattle.geometry.specs.Formula.{sumOf, blend}
 use Rattle.rays.specs.Space.{Ray, minus3, dot3, cross3, along3}
 use Rattle.rays.specs.Plane.{normal, distance, hit, weight, weightsAt, weightsOn, planeWeights}
 use Rattle.rays.specs.Backward.{frameOf, framed, meetsU, meetsV, weighted, shared, backwardOn, planeBackward}
@@ -56,7 +56,7 @@ module _ {A : Type 0} (R : Arith A) (L : Laws R) (x y : Triangle (ℕ → A)) (d
   summed : (b : Weights (Dual A)) (c : ℕ)
       → gathered (duals R) (λ j. blend (duals R) b (movingValues x y .p0 j) (movingValues x y .p1 j) (movingValues x y .p2 j)) (λ j. still R (d j)) c .eps
       ≡ blend R (atε b) (incoming R x d c .b0) (incoming R x d c .b1) (incoming R x d c .b2) ⊕ innerValues R d (real b) y c
-  unfolding Equal eval gathered incoming innerValues toValue blend
+  unfolding Equal eval gathered sumOf incoming innerValues toValue blend
   summed b zero =
       by-ring R L (from R (b .b0 .eps ∷ b .b1 .eps ∷ b .b2 .eps ∷ [])) :0
       (blend E (weights (var 0) (var 1) (var 2)) :0 :0 :0 :+ (:0 :+ :0 :+ :0)) refl
@@ -111,6 +111,6 @@ module _ {A : Type 0} (R : Arith A) (L : Laws R) (p m : Triangle (Vec3 A)) (r : 
 
   -- beside ε stands the loss itself
   pub loss-same : (x y : Triangle (ℕ → A)) (d : ℕ → A) (c : ℕ) → loss (duals R) P line (movingValues x y) (λ j. still R (d j)) c .re ≡ loss R p r x d c
-  unfolding loss gathered valueAt blend planeWeights weightsOn weightsAt weight hit distance along3 normal minus3 dot3 cross3
+  unfolding loss gathered sumOf valueAt blend planeWeights weightsOn weightsAt weight hit distance along3 normal minus3 dot3 cross3
   loss-same x y d zero = refl
   loss-same x y d (suc c) = ap (λ s. s ⊕ R .mul (valueAt R p r x c) (d c)) (loss-same x y d c)

@@ -8,6 +8,7 @@ use native.Mathlib.Omega.{arith}
 use lib.ListN.{length}
 use Rattle.geometry.specs.Arith.{Arith}
 use Rattle.geometry.specs.Vector.{Vec3, vec3, Weights, Triangle, triangle}
+use Rattle.geometry.specs.Formula.{sumOf}
 use Rattle.rays.specs.Space.{Ray, dot3}
 use Rattle.meshes.specs.Mesh.{Face}
 use Rattle.values_bwd.specs.Gather.{gathered}
@@ -86,7 +87,7 @@ module _ {A : Type 0} (R : Arith A) (L : Laws R) where
       turn j = toCorners c f j (toValue R d (b .b0) j) (toValue R d (b .b1) j) (toValue R d (b .b2) j)
 
       turns : (n : ℕ) → sumFrom R (λ j. paired R m (turn j)) 0 n ≡ innerValues R d b (valuesAt m c f) n
-      unfolding Equal eval sumFrom paired innerValues gathered
+      unfolding Equal eval sumFrom paired innerValues gathered sumOf
       turns zero = by-ring R L (from R []) :0 (:0 :+ :0 :+ :0) refl
       turns (suc n) =
           sum-last R L (λ j. paired R m (turn j)) 0 n

@@ -14,7 +14,6 @@ use Rattle.meshes.specs.Mesh as Mesh
 use Rattle.meshes.specs.Mesh.{Face}
 use Rattle.meshes.specs.View.{View}
 use Rattle.meshes.specs.Sums as Sums
-use Rattle.values.specs.Pass as Pass
 use Rattle.values.specs.Pass.{Image, Vertices, span, rayOf}
 use Rattle.values.specs.Interpolate as Interpolate
 use Rattle.values_bwd.specs.Additions as Additions
@@ -44,7 +43,7 @@ sceneOf g s v dldw =
 pub value-at-floats : (g : Image) (s : Vertices) (v : View) (dldw : List Float) (f : Face) (r : Ray Float) (j : ℕ) (old : Float)
     → (let c = sceneOf g s v dldw in
     Interpolate.valueAt s (some f) (some r) j old ≡ valueAt floats (cornersAt (c .xyz) f) r (valuesAt (c .val) (c .channels) f) j)
-unfolding Interpolate.valueAt Interpolate.blendOf Pass.cornersAt Mesh.vertexAt valueAt
+unfolding Interpolate.valueAt Interpolate.blendOf Mesh.cornersAt Mesh.vertexAt valueAt
 value-at-floats g s v dldw f r j old = refl
 
 -- ---- `interpolate_bwd`
@@ -67,13 +66,13 @@ module _ (g : Image) (s : Vertices) (v : View) (dldw : List Float) where
   scene = sceneOf g s v dldw
 
   xyz-given : (o : Option Face) (q : Option (Ray Float)) (d : ℕ → Float) → Additions.pixelXyz s o q d ≡ map given (pixelXyz floats scene o q d)
-  unfolding Additions.pixelXyz Additions.toXyz Additions.gradientsAt Additions.backward Additions.incoming Pass.cornersAt Mesh.vertexAt pixelXyz toXyz gradientsAt backward incoming
+  unfolding Additions.pixelXyz Additions.toXyz Additions.gradientsAt Additions.backward Additions.incoming Mesh.cornersAt Mesh.vertexAt pixelXyz toXyz gradientsAt backward incoming
   xyz-given (some f) (some r) d = refl
   xyz-given (some f) none d = refl
   xyz-given none q d = refl
 
   val-given : (o : Option Face) (q : Option (Ray Float)) (d : ℕ → Float) → Additions.pixelVal s o q d ≡ map given (pixelVal floats scene o q d)
-  unfolding Additions.pixelVal Additions.toVal Additions.gradientsAt Additions.backward Additions.incoming Pass.cornersAt Mesh.vertexAt pixelVal toVal toValue gradientsAt backward incoming
+  unfolding Additions.pixelVal Additions.toVal Additions.gradientsAt Additions.backward Additions.incoming Mesh.cornersAt Mesh.vertexAt pixelVal toVal toValue gradientsAt backward incoming
   val-given (some f) (some r) d = turns-given _ _ (λ j. refl) (span 0 (s .channels))
   val-given (some f) none d = refl
   val-given none q d = refl
