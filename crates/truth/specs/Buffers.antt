@@ -1,17 +1,18 @@
 -- What a buffer says of a movement, by place, before and after additions.
 use Prim.Native.Nat.{ℕ, zero, suc, _+_, _≤_, _<_}
 use mathlib.Core.Path.{_≡_, refl, sym, _∙_, ap}
-use mathlib.Core.List.{List, [], _∷_, _++_, flatMap}
-use native.Mathlib.Nat.{not-suc-le-zero, le-of-suc-le-suc, add-zero}
+use mathlib.Core.List.{List, [], _∷_, _++_, flatMap, append-nil, append-assoc}
+use native.Mathlib.Nat.{not-suc-le-zero, le-of-suc-le-suc, add-zero, zero-add}
 use native.Mathlib.Omega.{arith}
 use lib.ListN.{length, getD, set, length-set}
 use Rattle.geometry.specs.Arith.{Arith}
+use Rattle.geometry.specs.Formula.{sumOf}
 use Rattle.layers.specs.Layer.{tabulate}
 use Rattle.values.specs.Pass.{span}
 use Rattle.truth.specs.Laws.{Laws}
 use Rattle.truth.specs.Ring.{zero-add as zero-plus}
 use Rattle.truth.specs.Solve.{var, _:+_, _:*_, from, eval, Equal, by-ring}
-use Rattle.truth.specs.Image.{Addition, sumFrom, added, summed}
+use Rattle.truth.specs.Image.{Addition, added, summed}
 
 module _ {A : Type 0} (R : Arith A) where
   open Arith R using (add as _⊕_, mul as _⊗_)
@@ -44,6 +45,14 @@ turns-within n f a zero h = tt
 turns-within n f a (suc k) h =
     within-append n (f a) (flatMap f (span (suc a) k)) (h a (omega arith) (omega arith)) (turns-within n f (suc a) k (λ j l g. h j (omega arith) (omega arith)))
 
+-- one turn more
+turns-last : {A : Type 0} (f : ℕ → List (Addition A)) (a n : ℕ) → flatMap f (span a (suc n)) ≡ flatMap f (span a n) ++ f (a + n)
+unfolding flatMap tabulate
+turns-last f a zero = append-nil (f a) ∙ ap f (sym (add-zero a))
+turns-last f a (suc n) =
+    let e : suc a + n ≡ a + suc n = omega arith in
+    ap (λ t. f a ++ t) (turns-last f (suc a) n ∙ ap (λ k. flatMap f (span (suc a) n) ++ f k) e) ∙ sym (append-assoc (f a) (flatMap f (span (suc a) n)) (f (a + suc n)))
+
 module _ {A : Type 0} (R : Arith A) (L : Laws R) where
   open Arith R using (add as _⊕_, mul as _⊗_)
 
@@ -72,14 +81,10 @@ module _ {A : Type 0} (R : Arith A) (L : Laws R) where
         ∙ L .add-assoc _ _ _
 
   -- additions in turn
-  pub paired-turns : (m : ℕ → A) (f : ℕ → List (Addition A)) (a n : ℕ) → paired R m (flatMap f (span a n)) ≡ sumFrom R (λ k. paired R m (f k)) a n
-  unfolding paired flatMap tabulate sumFrom
-  paired-turns m f a zero = refl
-  paired-turns m f a (suc n) = paired-append m (f a) (flatMap f (span (suc a) n)) ∙ ap (λ t. paired R m (f a) ⊕ t) (paired-turns m f (suc a) n)
-
-  pub sum-last : (term : ℕ → A) (a n : ℕ) → sumFrom R term a (suc n) ≡ sumFrom R term a n ⊕ term (a + n)
-  unfolding sumFrom
-  sum-last term a zero = L .add-comm _ _ ∙ ap (λ k. R .zero ⊕ term k) (sym (add-zero a))
-  sum-last term a (suc n) =
-      let e : suc a + n ≡ a + suc n = omega arith in
-      ap (λ t. term a ⊕ t) (sum-last term (suc a) n ∙ ap (λ k. sumFrom R term (suc a) n ⊕ term k) e) ∙ sym (L .add-assoc _ _ _)
+  pub paired-turns : (m : ℕ → A) (f : ℕ → List (Addition A)) (n : ℕ) → paired R m (flatMap f (span 0 n)) ≡ sumOf R (λ k. paired R m (f k)) n
+  unfolding paired flatMap tabulate sumOf
+  paired-turns m f zero = refl
+  paired-turns m f (suc n) =
+      ap (paired R m) (turns-last f 0 n ∙ ap (λ k. flatMap f (span 0 n) ++ f k) (zero-add n))
+      ∙ paired-append m (flatMap f (span 0 n)) (f n)
+      ∙ ap (λ t. t ⊕ paired R m (f n)) (paired-turns m f n)

@@ -128,7 +128,7 @@ zeros n = replicate n (whole 0)
 
 -- from buffers of nothing, what they hold is the derivative
 pub pass-is-true : (mx mv : ℕ → ℚ)
-    → rationals .add (against rationals (summed rationals (whole 0) (zeros 9) (imageXyz rationals scene 0 2)) mx)
-    (against rationals (summed rationals (whole 0) (zeros 3) (imageVal rationals scene 0 2)) mv)
-    ≡ rationals .add (rationals .add (against rationals (zeros 9) mx) (against rationals (zeros 3) mv)) (imageLoss (duals rationals) (movingScene rationals scene mx mv) 0 2 .eps)
+    → rationals .add (against rationals (summed rationals (whole 0) (zeros 9) (imageXyz rationals scene 2)) mx)
+    (against rationals (summed rationals (whole 0) (zeros 3) (imageVal rationals scene 2)) mv)
+    ≡ rationals .add (rationals .add (against rationals (zeros 9) mx) (against rationals (zeros 3) mv)) (imageLoss (duals rationals) (movingScene rationals scene mx mv) 2 .eps)
 pass-is-true mx mv = pass-true rationals rational-laws scene mx mv (whole 0) (zeros 9) (zeros 3) 2 ready

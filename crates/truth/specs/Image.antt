@@ -1,11 +1,12 @@
 -- Both values passes over a whole image, over any arithmetic: the loss, and what is added to the two lent buffers. At f32 it is what the product's
 -- definitions say: module Ties. The map is held fixed, so what a pixel shows and its ray are given.
-use Prim.Native.Nat.{ℕ, zero, suc, _+_, _*_}
+use Prim.Native.Nat.{ℕ, _+_, _*_}
 use mathlib.Core.Option.{Option, none, some}
 use mathlib.Core.List.{List, [], _∷_, _++_, flatMap}
 use lib.ListN.{getD, set}
 use Rattle.geometry.specs.Arith.{Arith}
 use Rattle.geometry.specs.Vector.{Vec3, vec3, Weights, Triangle, triangle}
+use Rattle.geometry.specs.Formula.{sumOf}
 use Rattle.rays.specs.Space.{Ray}
 use Rattle.meshes.specs.Mesh.{Face}
 use Rattle.values.specs.Pass.{span}
@@ -52,11 +53,6 @@ module _ {A : Type 0} (R : Arith A) where
   open Arith R using (add as _⊕_)
 
   infixl 6 _⊕_
-  -- the sum of n terms from a on
-  unfoldable pub sumFrom : (ℕ → A) → ℕ → ℕ → A
-  sumFrom term a zero = R .zero
-  sumFrom term a (suc n) = term a ⊕ sumFrom term (suc a) n
-
   unfoldable pub toVal : ℕ → Face → (ℕ → A) → Weights A → List (Addition A)
   toVal c f d b = flatMap (λ j. toCorners c f j (toValue R d (b .b0) j) (toValue R d (b .b1) j) (toValue R d (b .b2) j)) (span 0 c)
 
@@ -91,15 +87,15 @@ module _ {A : Type 0} (R : Arith A) where
     abbrev pub valAt : ℕ → List (Addition A)
     valAt p = pixelVal (s .shown p) (s .rays p) (incomingAt p)
 
-    -- the loss of n pixels from a on, and what they add
-    abbrev pub imageLoss : ℕ → ℕ → A
-    imageLoss a n = sumFrom lossAt a n
+    -- the loss of n pixels, and what they add
+    abbrev pub imageLoss : ℕ → A
+    imageLoss n = sumOf R lossAt n
 
-    abbrev pub imageXyz : ℕ → ℕ → List (Addition A)
-    imageXyz a n = flatMap xyzAt (span a n)
+    abbrev pub imageXyz : ℕ → List (Addition A)
+    imageXyz n = flatMap xyzAt (span 0 n)
 
-    abbrev pub imageVal : ℕ → ℕ → List (Addition A)
-    imageVal a n = flatMap valAt (span a n)
+    abbrev pub imageVal : ℕ → List (Addition A)
+    imageVal n = flatMap valAt (span 0 n)
 
   -- sums into a buffer, one addition after the other; `past` is what a read past its end gives
   module _ (past : A) where

@@ -3,7 +3,6 @@ use Prim.Native.Nat.{ℕ, zero, suc, _+_, _*_, _≤_, _<_}
 use mathlib.Core.Path.{_≡_, refl, sym, _∙_, ap, ap₂}
 use mathlib.Core.Option.{Option, none, some}
 use mathlib.Core.List.{List, [], _∷_}
-use native.Mathlib.Nat.{zero-add}
 use native.Mathlib.Omega.{arith}
 use lib.ListN.{length}
 use Rattle.geometry.specs.Arith.{Arith}
@@ -20,8 +19,8 @@ use Rattle.truth.specs.Moving.{stillRay, inner}
 use Rattle.truth.specs.Meeting.{D, n·n}
 use Rattle.truth.specs.Pixel.{toValue, innerValues}
 use Rattle.truth.specs.Loss.{loss-true}
-use Rattle.truth.specs.Buffers.{against, paired, Within, within-append, turns-within, against-summed, paired-turns, sum-last}
-use Rattle.truth.specs.Image.{Scene, Addition, vertexAt, cornersAt, valuesAt, toCorners, toXyz, toVal, incomingAt, pixelLoss, pixelXyz, pixelVal, xyzAt, valAt, imageLoss, imageXyz, imageVal, sumFrom, summed}
+use Rattle.truth.specs.Buffers.{against, paired, Within, within-append, turns-within, against-summed, paired-turns}
+use Rattle.truth.specs.Image.{Scene, Addition, vertexAt, cornersAt, valuesAt, toCorners, toXyz, toVal, incomingAt, pixelLoss, pixelXyz, pixelVal, xyzAt, valAt, imageLoss, imageXyz, imageVal, summed}
 
 -- ---- an image while the vertices and the values move
 
@@ -86,12 +85,11 @@ module _ {A : Type 0} (R : Arith A) (L : Laws R) where
       abbrev turn : ℕ → List (Addition A)
       turn j = toCorners c f j (toValue R d (b .b0) j) (toValue R d (b .b1) j) (toValue R d (b .b2) j)
 
-      turns : (n : ℕ) → sumFrom R (λ j. paired R m (turn j)) 0 n ≡ innerValues R d b (valuesAt m c f) n
-      unfolding Equal eval sumFrom paired innerValues gathered sumOf
+      turns : (n : ℕ) → sumOf R (λ j. paired R m (turn j)) n ≡ innerValues R d b (valuesAt m c f) n
+      unfolding Equal eval paired innerValues gathered sumOf
       turns zero = by-ring R L (from R []) :0 (:0 :+ :0 :+ :0) refl
       turns (suc n) =
-          sum-last R L (λ j. paired R m (turn j)) 0 n
-          ∙ ap₂ _⊕_ (turns n) (ap (λ j. paired R m (turn j)) (zero-add n))
+          ap (λ t. t ⊕ paired R m (turn n)) (turns n)
           ∙ by-ring R L
           (from R (gathered R (toValue R d (b .b0)) (valuesAt m c f .p0) n ∷ gathered R (toValue R d (b .b1)) (valuesAt m c f .p1) n ∷ gathered R (toValue R d (b .b2)) (valuesAt m c f .p2) n
           ∷ toValue R d (b .b0) n ∷ toValue R d (b .b1) n ∷ toValue R d (b .b2) n
@@ -101,7 +99,7 @@ module _ {A : Type 0} (R : Arith A) (L : Laws R) where
 
       paired-val : paired R m (toVal R c f d b) ≡ innerValues R d b (valuesAt m c f) c
       unfolding toVal
-      paired-val = paired-turns R L m turn 0 c ∙ turns c
+      paired-val = paired-turns R L m turn c ∙ turns c
 
 -- ---- a pixel, and all
 
@@ -144,27 +142,27 @@ module _ {A : Type 0} (R : Arith A) (L : Laws R) (s : Scene A) (mx mv : ℕ → 
   pixel (some f) none d h = (tt, tt, L .add-zero (R .zero))
   pixel none q d h = (tt, tt, L .add-zero (R .zero))
 
-  pixels : (a n : ℕ) → ((p : ℕ) → a ≤ p → p < a + n → Ready R s nx nv p)
-      → sumFrom R (λ p. paired R mx (xyzAt R s p)) a n ⊕ sumFrom R (λ p. paired R mv (valAt R s p)) a n ≡ imageLoss (duals R) (movingScene R s mx mv) a n .eps
-  unfolding sumFrom
-  pixels a zero h = L .add-zero (R .zero)
-  pixels a (suc n) h =
+  pixels : (n : ℕ) → ((p : ℕ) → p < n → Ready R s nx nv p)
+      → sumOf R (λ p. paired R mx (xyzAt R s p)) n ⊕ sumOf R (λ p. paired R mv (valAt R s p)) n ≡ imageLoss (duals R) (movingScene R s mx mv) n .eps
+  unfolding sumOf
+  pixels zero h = L .add-zero (R .zero)
+  pixels (suc n) h =
       add-add R L _ _ _ _
-      ∙ ap₂ _⊕_ (pixel (s .shown a) (s .rays a) (incomingAt R s a) (h a (omega arith) (omega arith)) .2) (pixels (suc a) n (λ p l g. h p (omega arith) (omega arith)))
+      ∙ ap₂ _⊕_ (pixels n (λ p l. h p (omega arith))) (pixel (s .shown n) (s .rays n) (incomingAt R s n) (h n (omega arith)) .2)
 
 -- Every pixel's additions, into lent buffers: afterwards the buffers say of the movement what they said before, and the derivative of the image's loss.
 pub pass-true : {A : Type 0} (R : Arith A) (L : Laws R) (s : Scene A) (mx mv : ℕ → A) (past : A) (xs vs : List A) (n : ℕ)
     → ((p : ℕ) → p < n → Ready R s (length xs) (length vs) p)
-    → R .add (against R (summed R past xs (imageXyz R s 0 n)) mx) (against R (summed R past vs (imageVal R s 0 n)) mv)
-    ≡ R .add (R .add (against R xs mx) (against R vs mv)) (imageLoss (duals R) (movingScene R s mx mv) 0 n .eps)
+    → R .add (against R (summed R past xs (imageXyz R s n)) mx) (against R (summed R past vs (imageVal R s n)) mv)
+    ≡ R .add (R .add (against R xs mx) (against R vs mv)) (imageLoss (duals R) (movingScene R s mx mv) n .eps)
 pass-true R L s mx mv past xs vs n h =
-    ap₂ (R .add) (against-summed R L past xs (imageXyz R s 0 n) mx xyz-inside ∙ ap (R .add (against R xs mx)) (paired-turns R L mx (xyzAt R s) 0 n))
-    (against-summed R L past vs (imageVal R s 0 n) mv val-inside ∙ ap (R .add (against R vs mv)) (paired-turns R L mv (valAt R s) 0 n))
+    ap₂ (R .add) (against-summed R L past xs (imageXyz R s n) mx xyz-inside ∙ ap (R .add (against R xs mx)) (paired-turns R L mx (xyzAt R s) n))
+    (against-summed R L past vs (imageVal R s n) mv val-inside ∙ ap (R .add (against R vs mv)) (paired-turns R L mv (valAt R s) n))
     ∙ add-add R L _ _ _ _
-    ∙ ap (R .add (R .add (against R xs mx) (against R vs mv))) (pixels R L s mx mv (length xs) (length vs) 0 n (λ p l g. h p (omega arith)))
+    ∙ ap (R .add (R .add (against R xs mx) (against R vs mv))) (pixels R L s mx mv (length xs) (length vs) n h)
   where
-    xyz-inside : Within (length xs) (imageXyz R s 0 n)
+    xyz-inside : Within (length xs) (imageXyz R s n)
     xyz-inside = turns-within (length xs) (xyzAt R s) 0 n (λ p a l. pixel R L s mx mv (length xs) (length vs) (s .shown p) (s .rays p) (incomingAt R s p) (h p (omega arith)) .0)
 
-    val-inside : Within (length vs) (imageVal R s 0 n)
+    val-inside : Within (length vs) (imageVal R s n)
     val-inside = turns-within (length vs) (valAt R s) 0 n (λ p a l. pixel R L s mx mv (length xs) (length vs) (s .shown p) (s .rays p) (incomingAt R s p) (h p (omega arith)) .1)

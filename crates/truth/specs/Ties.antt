@@ -79,7 +79,7 @@ module _ (g : Image) (s : Vertices) (v : View) (dldw : List Float) where
 
   -- what it leaves in the two accumulators after n pixels
   pub sums-at-floats : (n : ℕ) (old : Bwd.Sums)
-      → summedOver g s v dldw 0 n old ≡ sums (summed floats nan (old .xyz) (imageXyz floats scene 0 n)) (summed floats nan (old .val) (imageVal floats scene 0 n))
+      → summedOver g s v dldw 0 n old ≡ sums (summed floats nan (old .xyz) (imageXyz floats scene n)) (summed floats nan (old .val) (imageVal floats scene n))
   unfolding summedOver Bwd.xyzAt Bwd.valAt
   sums-at-floats n old =
       ap₂ sums
