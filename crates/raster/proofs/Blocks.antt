@@ -1,7 +1,7 @@
--- Four pixels in a row: what is stored together is what four steps leave, and columns past the end bring nothing.
+-- Four columns of a row at a time: columns past the end bring nothing.
 use Prim.Native.Nat.{ℕ, _+_, _*_, _-_, _≤_, _<_}
 use mathlib.Core.Path.{_≡_, refl, sym, ap, _∙_}
-use mathlib.Core.Bool.{Bool, true, false, _||_, cond, false≢true}
+use mathlib.Core.Bool.{cond}
 use mathlib.Core.Logic.{_⊎_, inl, inr}
 use mathlib.Core.List.{List}
 use native.Mathlib.Omega.{arith}
@@ -9,9 +9,9 @@ use borrow.Author.Tests.{lt-ltb, le-ltb}
 use lib.Dec.{ltb}
 use lib.Ieee.{Float, lt, le}
 use Rattle.geometry.specs.Vector.{Vec3, vec2, Triangle}
-use Rattle.layers.specs.Cell.{Cell, cell, pick, lowest}
+use Rattle.layers.specs.Cell.{Cell, lowest}
 use Rattle.layers.specs.Layer.{Layer, at}
-use Rattle.layers.specs.Steps.{Spans, written}
+use Rattle.layers.specs.Steps.{Spans}
 use Rattle.layers.specs.Laws.Pixels.{spans-reaches}
 use Rattle.pixels.specs.Pixel.{centre}
 use Rattle.pixels.specs.Laws.{number-below}
@@ -19,60 +19,15 @@ use Rattle.questions.specs.Laws.{Sized}
 use Rattle.rules.specs.Scan.{depthAt}
 use Rattle.rules.specs.Draw.{painted}
 use Rattle.rules.specs.Laws.Paint.{painted-none, painted-same, painted-append}
-use Rattle.raster.specs.Answer.{orLowest}
+use Rattle.lanes.specs.Answer.{orLowest}
 use Rattle.raster.specs.Box.{boxCells, upTo}
-use Rattle.raster.specs.Step.{stepped, stepped4}
+use Rattle.lanes.specs.Step.{stepped, stepped4}
 use Rattle.raster.proofs.Reaching.{below-or}
 use Rattle.raster.proofs.Boxes.{box-no-columns, box-columns}
 use Rattle.raster.proofs.Centres.{centre-before, centre-after}
-use Rattle.raster.proofs.Pixel.{kept-step, never-greater, at-other, spans-stepped, pixel-done}
+use Rattle.lanes.proofs.Steps.{kept-step, never-greater}
+use Rattle.raster.proofs.Pixel.{pixel-done}
 use Rattle.raster.proofs.Turns.{Turn, turn-first, turn-next}
-
--- ---- stored together
-
--- a cell that is read where nothing was written yet
-step-late : (l m : Layer) (q k : ℕ) (z : Float) → at m q ≡ at l q → written m q (pick (at l q) (cell z k)) ≡ stepped m q k z
-unfolding stepped
-step-late l m q k z e = ap (λ (c : Cell). written m q (pick c (cell z k))) (sym e)
-
-at-stepped : (l : Layer) (p q k : ℕ) (z : Float) → (q ≡ p → ⊥) → at (stepped l p k z) q ≡ at l q
-unfolding stepped
-at-stepped l p q k z n = at-other l p q (pick (at l p) (cell z k)) n
-
-module _ (l : Layer) (p k : ℕ) (z0 z1 z2 z3 : Float) where
-  -- all four cells are read first
-  pub four-stored :
-      written (written (written (written l p (pick (at l p) (cell z0 k))) (p + 1) (pick (at l (p + 1)) (cell z1 k))) (p + 2) (pick (at l (p + 2)) (cell z2 k))) (p + 3) (pick (at l (p + 3)) (cell z3 k))
-      ≡ stepped4 l p k z0 z1 z2 z3
-  unfolding stepped4
-  four-stored =
-      ap (λ (m : Layer). written (written (written m (p + 1) (pick (at l (p + 1)) (cell z1 k))) (p + 2) (pick (at l (p + 2)) (cell z2 k))) (p + 3) (pick (at l (p + 3)) (cell z3 k))) (step-late l l p k z0 refl)
-      ∙ ap (λ (m : Layer). written (written m (p + 2) (pick (at l (p + 2)) (cell z2 k))) (p + 3) (pick (at l (p + 3)) (cell z3 k))) (step-late l (stepped l p k z0) (p + 1) k z1 (at-stepped l p (p + 1) k z0 (λ e. omega arith)))
-      ∙ ap (λ (m : Layer). written m (p + 3) (pick (at l (p + 3)) (cell z3 k)))
-      (step-late l (stepped (stepped l p k z0) (p + 1) k z1) (p + 2) k z2
-      (at-stepped (stepped l p k z0) (p + 1) (p + 2) k z1 (λ e. omega arith) ∙ at-stepped l p (p + 2) k z0 (λ e. omega arith)))
-      ∙ step-late l (stepped (stepped (stepped l p k z0) (p + 1) k z1) (p + 2) k z2) (p + 3) k z3
-      (at-stepped (stepped (stepped l p k z0) (p + 1) k z1) (p + 2) (p + 3) k z2 (λ e. omega arith)
-      ∙ at-stepped (stepped l p k z0) (p + 1) (p + 3) k z1 (λ e. omega arith)
-      ∙ at-stepped l p (p + 3) k z0 (λ e. omega arith))
-
-  -- nothing to bring
-  pub four-kept : lt lowest z0 || (lt lowest z1 || (lt lowest z2 || lt lowest z3)) ≡ false → l ≡ stepped4 l p k z0 z1 z2 z3
-  unfolding stepped4
-  four-kept e = go (lt lowest z0) refl (lt lowest z1) refl (lt lowest z2) refl (lt lowest z3) refl e
-    where
-      go :
-          (b0 : Bool) → lt lowest z0 ≡ b0 → (b1 : Bool) → lt lowest z1 ≡ b1 → (b2 : Bool) → lt lowest z2 ≡ b2 → (b3 : Bool) → lt lowest z3 ≡ b3
-          → b0 || (b1 || (b2 || b3)) ≡ false → l ≡ stepped (stepped (stepped (stepped l p k z0) (p + 1) k z1) (p + 2) k z2) (p + 3) k z3
-      go true e0 b1 e1 b2 e2 b3 e3 f = absurd (false≢true (sym f))
-      go false e0 true e1 b2 e2 b3 e3 f = absurd (false≢true (sym f))
-      go false e0 false e1 true e2 b3 e3 f = absurd (false≢true (sym f))
-      go false e0 false e1 false e2 true e3 f = absurd (false≢true (sym f))
-      go false e0 false e1 false e2 false e3 f =
-          kept-step l p k z0 (never-greater z0 e0 _)
-          ∙ kept-step _ (p + 1) k z1 (never-greater z1 e1 _)
-          ∙ kept-step _ (p + 2) k z2 (never-greater z2 e2 _)
-          ∙ kept-step _ (p + 3) k z3 (never-greater z3 e3 _)
 
 -- ---- columns as far as the end
 

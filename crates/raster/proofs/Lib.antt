@@ -3,7 +3,6 @@ pub mod Reaching
 pub mod Boxes
 pub mod Pixel
 pub mod Centres
-pub mod Lanes
 pub mod Turns
 pub mod Blocks
 pub mod Numbers

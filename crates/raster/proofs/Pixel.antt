@@ -1,53 +1,28 @@
--- One pixel of a layer: what a step writes there, and what a lane's depth brings.
+-- One pixel: what a lane's depth brings is the box of that pixel painted.
 use Prim.Native.Nat.{ℕ, _+_, _*_, _<_}
-use mathlib.Core.Path.{_≡_, refl, sym, ap, ap₂, _∙_}
-use mathlib.Core.Bool.{Bool, true, false, false≢true}
-use mathlib.Core.List.{List, [], _∷_}
+use mathlib.Core.Path.{_≡_, refl, sym, ap, _∙_}
+use mathlib.Core.Bool.{Bool, true, false}
 use mathlib.Core.Option.{Option, none, some}
-use native.Mathlib.Omega.{arith}
 use borrow.Author.Tests.{eqb-true, eqb-false}
 use lib.Dec.{eqb}
-use lib.Ieee.{Float, nan, inf, fin, lt}
-use lib.ListN.{length, length-set}
-use lib.Seq.{getD-set-same, getD-set-other, set-getD}
+use lib.Ieee.{Float, lt}
 use Rattle.geometry.specs.Vector.{Vec2, vec2, Vec3, Weights, Triangle}
 use Rattle.layers.specs.Cell.{Cell, cell, lowest, exceeds, pick, offered}
 use Rattle.layers.specs.Offers.{numbered}
-use Rattle.layers.specs.Layer.{Layer, layer, at}
+use Rattle.layers.specs.Layer.{Layer, at}
 use Rattle.layers.specs.Steps.{Spans, Reaches, written}
 use Rattle.layers.specs.Laws.Cells.{same-layer}
 use Rattle.pixels.specs.Pixel.{centre, centreOf}
 use Rattle.rules.specs.Scan.{depthAt, weighedDepth, kept, dropped, centreAt}
 use Rattle.rules.specs.Draw.{painted}
 use Rattle.rules.specs.Laws.Paint.{at-painted, spans-painted}
-use Rattle.raster.specs.Answer.{orLowest}
+use Rattle.lanes.specs.Answer.{orLowest}
 use Rattle.raster.specs.Box.{boxCells}
-use Rattle.raster.specs.Step.{stepped}
+use Rattle.lanes.specs.Step.{stepped}
+use Rattle.lanes.proofs.Steps.{never-greater, at-written, at-other, spans-written}
 use Rattle.raster.proofs.Boxes.{box-here, box-elsewhere}
 
--- ---- what a test leaves written
-
-pub kept-step : (l : Layer) (p k : ℕ) (z : Float) → lt (at l p .depth) z ≡ false → l ≡ stepped l p k z
-unfolding stepped pick exceeds
-kept-step l p k z e = rw (e, set-getD (l .pix2tri) p 0, set-getD (l .pix2depth) p nan)
-
-pub taken-step : (l : Layer) (p k : ℕ) (z : Float) → lt (at l p .depth) z ≡ true → written l p (cell z k) ≡ stepped l p k z
-unfolding stepped pick exceeds
-taken-step l p k z e = rw e
-
--- ---- −infinity and NaN are never greater
-
-pub never-greater : (z : Float) → lt lowest z ≡ false → (d : Float) → lt d z ≡ false
-unfolding lt
-never-greater nan e nan = refl
-never-greater nan e (inf s) = refl
-never-greater nan e (fin s m x) = refl
-never-greater (inf true) e nan = refl
-never-greater (inf true) e (inf true) = refl
-never-greater (inf true) e (inf false) = refl
-never-greater (inf true) e (fin s m x) = refl
-never-greater (inf false) e d = absurd (false≢true (sym e))
-never-greater (fin t n y) e d = absurd (false≢true (sym e))
+-- ---- −infinity in the place of no depth
 
 pick-lowest : (c : Cell) (k : ℕ) → pick c (cell lowest k) ≡ c
 unfolding pick exceeds lt
@@ -69,20 +44,6 @@ unfolding depthAt
 lane-step c k s q = lane-weighed c k s _
 
 -- ---- one pixel painted
-
-at-written : (l : Layer) (p : ℕ) (c : Cell) → Reaches l p → at (written l p c) p ≡ c
-at-written l p c r = ap₂ cell (getD-set-same (l .pix2depth) p (c .depth) nan (r .depths)) (getD-set-same (l .pix2tri) p (c .number) 0 (r .numbers))
-
-pub at-other : (l : Layer) (p q : ℕ) (c : Cell) → (q ≡ p → ⊥) → at (written l p c) q ≡ at l q
-at-other l p q c n = ap₂ cell (getD-set-other (l .pix2depth) p q (c .depth) nan n) (getD-set-other (l .pix2tri) p q (c .number) 0 n)
-
-spans-written : (l : Layer) (p : ℕ) (c : Cell) (n : ℕ) → Spans l n → Spans (written l p c) n
-spans-written l p c n s =
-    record { numbers = length-set (l .pix2tri) p (c .number) ∙ s .numbers; depths = length-set (l .pix2depth) p (c .depth) ∙ s .depths }
-
-pub spans-stepped : (l : Layer) (p k : ℕ) (z : Float) (n : ℕ) → Spans l n → Spans (stepped l p k z) n
-unfolding stepped
-spans-stepped l p k z n s = spans-written l p (pick (at l p) (cell z k)) n s
 
 module _ (s : Triangle (Vec3 Float)) (k w ix iy n : ℕ) (l : Layer) (whole : Spans l n) (r : Reaches l (iy * w + ix)) (inside : ix < w) where
   -- the pixel's candidate brought to it is the box of that pixel painted

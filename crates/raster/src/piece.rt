@@ -1,6 +1,6 @@
 // One piece: the tests that faces off the image fail early, its corners on the screen, its box, and then the scan.
 
-use super::Screen;
+use lanes::Screen;
 ghost use mathlib.Core.Path.{_≡_};
 ghost use mathlib.Core.Bool.{false};
 ghost use mathlib.Core.List.{[]};
@@ -13,7 +13,7 @@ ghost use Rattle.layers.specs.Steps.{Spans};
 ghost use Rattle.rules.specs.Draw.{painted};
 ghost use Rattle.rules.specs.Scan as rule;
 ghost use Rattle.pieces.specs.Answer.{pieceOf};
-ghost use Rattle.raster.specs.Answer.{screenOf};
+ghost use Rattle.lanes.specs.Answer.{screenOf};
 ghost use Rattle.raster.specs.Piece.{pieceCells};
 
 fn lower(a: f32, b: f32) -> f32

@@ -1,26 +1,15 @@
 // The scan of a box: row by row, left to right, four pixels at a time.
 
-use super::Screen;
+use lanes::Screen;
 ghost use mathlib.Core.Path.{_≡_};
 ghost use Prim.Native.Nat.{ℕ, _+_, _*_, _≤_, _<_};
 ghost use Rattle.questions.specs.Laws.{Sized};
 ghost use Rattle.layers.specs.Layer.{layer};
-ghost use Rattle.layers.specs.Steps.{Spans, Reaches};
+ghost use Rattle.layers.specs.Steps.{Spans};
+ghost use Rattle.pixels.specs.Pixel.{centre};
 ghost use Rattle.rules.specs.Draw.{painted};
-ghost use Rattle.raster.specs.Answer.{screenOf};
+ghost use Rattle.lanes.specs.Answer.{screenOf};
 ghost use Rattle.raster.specs.Box.{boxCells, upTo, Within};
-ghost use Rattle.raster.specs.Step.{stepped};
-
-// Depth and number are written at pixel p only when the depth is greater than the stored one.
-fn put(pix2tri: &mut [u32], pix2depth: &mut [f32], p: usize, depth: f32, number: u32)
-    requires { ⌜ Reaches (layer (now pix2tri) (now pix2depth)) p ⌝ }
-    ensures { λ _. ⌜ layer (now (pix2tri .exit)) (now (pix2depth .exit)) ≡ stepped (layer (now (pix2tri .entry)) (now (pix2depth .entry))) p number depth ⌝ }
-{
-    if pix2depth[p] < depth {
-        pix2depth[p] = depth;
-        pix2tri[p] = number;
-    }
-}
 
 // The pixel of column ix and row iy.
 fn draw_pixel(
@@ -42,8 +31,8 @@ fn draw_pixel(
 {
     let qx = pixels::centre(ix);
     let qy = pixels::centre(iy);
-    let z = super::lane::depth_at(s, qx, qy);
-    put(pix2tri, pix2depth, iy * w + ix, z, number);
+    let z = lanes::lane::depth_at(s, qx, qy);
+    lanes::block::put(pix2tri, pix2depth, iy * w + ix, z, number);
 }
 
 // Columns x0 to x1 of row iy, one by one.
@@ -70,6 +59,48 @@ fn draw_pixels(
         draw_pixel(pix2tri, pix2depth, w, h, s, number, ix, iy);
         ix += 1;
     }
+}
+
+// The columns ix to ix + 4 of row iy, as far as they are before x1. qx is the centre of the first.
+fn draw_four(
+    pix2tri: &mut [u32],
+    pix2depth: &mut [f32],
+    w: usize,
+    h: usize,
+    s: Screen,
+    number: u32,
+    ix: usize,
+    x1: usize,
+    iy: usize,
+    qx: f32,
+)
+    requires { ⌜ Sized 1 w h ⌝ }
+    requires { ⌜ Spans (layer (now pix2tri) (now pix2depth)) (w * h) ⌝ }
+    requires { ⌜ (ix + 4 ≤ w) × (ix < x1) ⌝ }
+    requires { ⌜ (x1 ≤ w) × (iy < h) ⌝ }
+    requires { ⌜ qx ≡ centre ix ⌝ }
+    ensures { λ _. ⌜ layer (now (pix2tri .exit)) (now (pix2depth .exit))
+        ≡ painted (boxCells (screenOf s) number w ix (upTo x1 (ix + 4)) iy (iy + 1)) (w * h) (layer (now (pix2tri .entry)) (now (pix2depth .entry))) ⌝ }
+{
+    let end = pixels::centre(x1 - 1);
+    let qy = pixels::centre(iy);
+    let q1 = qx + 1.0;
+    let q2 = qx + 2.0;
+    let q3 = qx + 3.0;
+    let z0 = lanes::lane::lane(s, qx, qy);
+    let z1 = lanes::lane::lane(s, q1, qy);
+    let z2 = lanes::lane::lane(s, q2, qy);
+    let z3 = lanes::lane::lane(s, q3, qy);
+    lanes::block::offer_four(
+        pix2tri,
+        pix2depth,
+        iy * w + ix,
+        number,
+        lanes::lane::up_to(end, qx, z0),
+        lanes::lane::up_to(end, q1, z1),
+        lanes::lane::up_to(end, q2, z2),
+        lanes::lane::up_to(end, q3, z3),
+    );
 }
 
 // Four columns can be drawn at once from each column before this one: some are before x1, and all are in the image.
@@ -111,7 +142,7 @@ fn draw_blocks(
     let mut ix = x0;
     let mut qx = pixels::centre(x0);
     while ix < end {
-        super::block::draw_four(pix2tri, pix2depth, w, h, s, number, ix, x1, iy, qx);
+        draw_four(pix2tri, pix2depth, w, h, s, number, ix, x1, iy, qx);
         ix += 4;
         qx += 4.0;
     }

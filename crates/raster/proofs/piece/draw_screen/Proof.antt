@@ -1,7 +1,7 @@
 -- `piece::draw_screen`: between the centres, or a box.
 use borrow.Author.Needs.{needs}
 use Rattle.layers.specs.Layer.{layer}
-use Rattle.raster.specs.Answer.{screenOf}
+use Rattle.lanes.specs.Answer.{screenOf}
 use Rattle.raster.proofs.Painting.{thin-columns, thin-rows, box-done}
 use Rattle.raster.proofs.piece.draw_screen.Statement.{statement}
 use Rattle.raster.proofs.piece.draw_screen.Tie as tie

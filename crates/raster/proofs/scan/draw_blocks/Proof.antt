@@ -4,7 +4,7 @@ use mathlib.Core.Path.{_≡_, sym, _∙_}
 use native.Mathlib.Omega.{arith}
 use Rattle.layers.specs.Layer.{layer}
 use Rattle.pixels.specs.Pixel.{centre}
-use Rattle.raster.specs.Answer.{screenOf}
+use Rattle.lanes.specs.Answer.{screenOf}
 use Rattle.raster.specs.Box.{boxCells, upTo}
 use Rattle.raster.proofs.Centres.{on-4}
 use Rattle.raster.proofs.Turns.{Turn}

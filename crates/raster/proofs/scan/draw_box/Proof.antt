@@ -3,7 +3,7 @@ use Prim.Native.Nat.{ℕ, _+_, _*_, _-_}
 use mathlib.Core.Path.{sym, _∙_}
 use native.Mathlib.Omega.{arith}
 use Rattle.layers.specs.Layer.{layer}
-use Rattle.raster.specs.Answer.{screenOf}
+use Rattle.lanes.specs.Answer.{screenOf}
 use Rattle.raster.specs.Box.{boxCells}
 use Rattle.raster.proofs.Boxes.{box-no-rows, box-rows}
 use Rattle.raster.proofs.Turns.{Turn, turn-first, turn-next, turn-last}

@@ -5,7 +5,7 @@ use native.Mathlib.Omega.{arith}
 use Rattle.questions.specs.Laws.{area}
 use Rattle.layers.specs.Layer.{layer}
 use Rattle.layers.specs.Laws.Pixels.{spans-reaches}
-use Rattle.raster.specs.Answer.{screenOf}
+use Rattle.lanes.specs.Answer.{screenOf}
 use Rattle.pixels.specs.Laws.{number-below}
 use Rattle.raster.proofs.Pixel.{pixel-done}
 use Rattle.raster.proofs.scan.draw_pixel.Statement.{statement}

@@ -3,7 +3,7 @@ use borrow.Author.Needs.{needs}
 use mathlib.Core.Path.{sym, _∙_}
 use native.Mathlib.Omega.{arith}
 use Rattle.layers.specs.Layer.{layer}
-use Rattle.raster.specs.Answer.{screenOf}
+use Rattle.lanes.specs.Answer.{screenOf}
 use Rattle.raster.proofs.Turns.{spans-is}
 use Rattle.raster.proofs.Blocks.{rest-done, blocks-done}
 use Rattle.raster.proofs.scan.draw_row.Statement.{statement}

@@ -1,0 +1,109 @@
+// Pixels of a layer to which depths are brought: one, and four in a row, loaded together, stepped together, stored together.
+
+ghost use mathlib.Core.Path.{_≡_};
+ghost use mathlib.Core.Bool.{_||_};
+ghost use Prim.Native.Nat.{ℕ, _+_};
+ghost use lib.Ieee.{lt};
+ghost use Rattle.layers.specs.Cell.{cell, pick, lowest};
+ghost use Rattle.layers.specs.Layer.{layer};
+ghost use Rattle.layers.specs.Steps.{Reaches};
+ghost use Rattle.lanes.specs.Step.{stepped, stepped4};
+
+// Depth and number are written at pixel p only when the depth is greater than the stored one.
+pub fn put(pix2tri: &mut [u32], pix2depth: &mut [f32], p: usize, depth: f32, number: u32)
+    requires { ⌜ Reaches (layer (now pix2tri) (now pix2depth)) p ⌝ }
+    ensures { λ _. ⌜ layer (now (pix2tri .exit)) (now (pix2depth .exit)) ≡ stepped (layer (now (pix2tri .entry)) (now (pix2depth .entry))) p number depth ⌝ }
+{
+    if pix2depth[p] < depth {
+        pix2depth[p] = depth;
+        pix2tri[p] = number;
+    }
+}
+
+// The depth of a cell after z is brought to it.
+fn depth_after(d: f32, z: f32) -> f32
+    ensures { λ r. ⌜ ((t k : ℕ) → r ≡ pick (cell d t) (cell z k) .depth) ⌝ }
+{
+    if d < z {
+        return z;
+    }
+    d
+}
+
+// The number of a cell after z is brought to it.
+fn number_after(d: f32, z: f32, t: u32, number: u32) -> u32
+    ensures { λ r. ⌜ r ≡ pick (cell d t) (cell z number) .number ⌝ }
+{
+    if d < z {
+        return number;
+    }
+    t
+}
+
+// Whether one of the four can be greater than a stored depth.
+fn some_offer(z0: f32, z1: f32, z2: f32, z3: f32) -> bool
+    ensures { λ r. ⌜ r ≡ lt lowest z0 || (lt lowest z1 || (lt lowest z2 || lt lowest z3)) ⌝ }
+{
+    let none = f32::from_bits(0xff80_0000);
+    if none < z0 {
+        return true;
+    }
+    if none < z1 {
+        return true;
+    }
+    if none < z2 {
+        return true;
+    }
+    none < z3
+}
+
+// The depths z0 to z3 are brought to four pixels from p on. All four are stored, with what they held where no depth is greater.
+fn put_four(
+    pix2tri: &mut [u32],
+    pix2depth: &mut [f32],
+    p: usize,
+    number: u32,
+    z0: f32,
+    z1: f32,
+    z2: f32,
+    z3: f32,
+)
+    requires { ⌜ Reaches (layer (now pix2tri) (now pix2depth)) (p + 3) ⌝ }
+    ensures { λ _. ⌜ layer (now (pix2tri .exit)) (now (pix2depth .exit)) ≡ stepped4 (layer (now (pix2tri .entry)) (now (pix2depth .entry))) p number z0 z1 z2 z3 ⌝ }
+{
+    let d0 = pix2depth[p];
+    let d1 = pix2depth[p + 1];
+    let d2 = pix2depth[p + 2];
+    let d3 = pix2depth[p + 3];
+    let t0 = pix2tri[p];
+    let t1 = pix2tri[p + 1];
+    let t2 = pix2tri[p + 2];
+    let t3 = pix2tri[p + 3];
+    pix2depth[p] = depth_after(d0, z0);
+    pix2depth[p + 1] = depth_after(d1, z1);
+    pix2depth[p + 2] = depth_after(d2, z2);
+    pix2depth[p + 3] = depth_after(d3, z3);
+    pix2tri[p] = number_after(d0, z0, t0, number);
+    pix2tri[p + 1] = number_after(d1, z1, t1, number);
+    pix2tri[p + 2] = number_after(d2, z2, t2, number);
+    pix2tri[p + 3] = number_after(d3, z3, t3, number);
+}
+
+// The same, where there is something to bring: memory is not touched for nothing.
+pub fn offer_four(
+    pix2tri: &mut [u32],
+    pix2depth: &mut [f32],
+    p: usize,
+    number: u32,
+    z0: f32,
+    z1: f32,
+    z2: f32,
+    z3: f32,
+)
+    requires { ⌜ Reaches (layer (now pix2tri) (now pix2depth)) (p + 3) ⌝ }
+    ensures { λ _. ⌜ layer (now (pix2tri .exit)) (now (pix2depth .exit)) ≡ stepped4 (layer (now (pix2tri .entry)) (now (pix2depth .entry))) p number z0 z1 z2 z3 ⌝ }
+{
+    if some_offer(z0, z1, z2, z3) {
+        put_four(pix2tri, pix2depth, p, number, z0, z1, z2, z3);
+    }
+}
