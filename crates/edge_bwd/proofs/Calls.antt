@@ -3,11 +3,11 @@ use Prim.Native.Nat.{ℕ, _*_, _/_}
 use mathlib.Core.Path.{_≡_, ap}
 use mathlib.Core.Bool.{true, _&&_}
 use mathlib.Core.List.{List}
-use borrow.Author.Tests.{eq-eqb, ne-eqb}
+use borrow.Author.Tests.{eq-eqb}
 use lib.Ieee.{Float}
 use lib.ListN.{length}
 use Rattle.questions.specs.Questions.{sizes, channels, groups, exact, allBelow, namesFaces}
-use Rattle.questions.specs.Laws.{sized, channelled, grouped, whole, both, accepted, exactly}
+use Rattle.questions.specs.Laws.{sized, channelled, grouped, whole, both, accepted, exactly, untouched}
 use Rattle.meshes.specs.Sums.{summed}
 use Rattle.pixels.specs.Edge.{hedge, vedge}
 use Rattle.edges.specs.Types.{Sight}
@@ -63,7 +63,7 @@ module _ (tri map : List ℕ) (h : ℕ) (s : Sight) (v : Signal) (dxyz : List Fl
   module _ (code : ℕ) (e : code ≡ bwdCode tri map h s v dxyz) where
     pub bwd-refused : (code ≡ 0 → ⊥) → outcome code dxyz ≡ edgeBwd tri map h s v dxyz
     unfolding edgeBwd answer
-    bwd-refused no0 = rw (← e, ne-eqb code 0 no0)
+    bwd-refused no0 = rw (← e) (ap (outcome code) (untouched code _ no0))
 
     pub bwd-done : (mid after : List Float) → code ≡ 0 → mid ≡ summed dxyz (axisAdditions hedge h s v) → after ≡ summed mid (axisAdditions vedge h s v)
         → outcome 0 after ≡ edgeBwd tri map h s v dxyz

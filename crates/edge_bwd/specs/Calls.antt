@@ -10,7 +10,7 @@ use Rattle.pixels.specs.Edge.{Axis, hedge, vedge, Edge, edgeCount, edgeAt}
 use Rattle.edges.specs.Inside.{projectFace, present}
 use Rattle.edges.specs.Types.{Sight}
 use Rattle.edges.specs.Gradient.{Signal}
-use Rattle.edges.specs.Calls.{all, allAnswered}
+use Rattle.edges.specs.Calls.{all, bothAnswered}
 use Rattle.tris.specs.Weights.{worldIn}
 use Rattle.edge_bwd.specs.Shares.{Share, sharesAt}
 use Rattle.edge_bwd.specs.Additions.{passAdditions}
@@ -41,7 +41,7 @@ exactBwd w h map v xyz dxyz =
 
 -- 8, and 9 after it, of both axes
 abbrev pub ofPairs : ℕ → Sight → List Question
-ofPairs h s = ask 8 (allAnswered hedge h s && allAnswered vedge h s) ∷ ask 9 (allUnwraps hedge h s && allUnwraps vedge h s) ∷ []
+ofPairs h s = ask 8 (bothAnswered h s) ∷ ask 9 (allUnwraps hedge h s && allUnwraps vedge h s) ∷ []
 
 -- the questions, of the face list `tri2vtx`, the map `pix2tri`, what the pass sees, and the accumulator
 unfoldable pub bwdCode : List ℕ → List ℕ → ℕ → Sight → Signal → List Float → ℕ

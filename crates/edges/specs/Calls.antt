@@ -1,10 +1,10 @@
 -- The whole outcome of `edge_gradient_and_type`.
 use Prim.Native.Nat.{ℕ, zero, suc, _*_, _/_}
 use mathlib.Core.Bool.{Bool, true, _&&_}
-use mathlib.Core.List.{List, [], _∷_}
+use mathlib.Core.List.{List, [], _∷_, _++_}
 use lib.ListN.{length}
 use lib.Ieee.{Float}
-use Rattle.questions.specs.Questions.{ask, firstNo, unlessRefused, sizes, channels, groups, exact, allBelow, namesFaces}
+use Rattle.questions.specs.Questions.{Question, ask, firstNo, unlessRefused, exact, allBelow, namesFaces, opening}
 use Rattle.layers.specs.Layer.{tabulate}
 use Rattle.pixels.specs.Edge.{Axis, hedge, vedge, edgeCount, edgeAt}
 use Rattle.edges.specs.Types.{Sight, firstOf, secondOf, typeOf, answered}
@@ -33,6 +33,10 @@ all test (suc n) = all test n && test n
 unfoldable pub allAnswered : Axis → ℕ → Sight → Bool
 allAnswered a h s = all (λ i. answered s (edgeAt a (s .width) i)) (edgeCount a (s .width) h)
 
+-- 8, of both axes
+abbrev pub bothAnswered : ℕ → Sight → Bool
+bothAnswered h s = allAnswered hedge h s && allAnswered vedge h s
+
 -- 4, of one axis's buffers
 abbrev pub exactSheet : Axis → ℕ → ℕ → Sheet → Bool
 exactSheet a w h b = exact (edgeCount a w h) (length (b .types)) && exact (edgeCount a w h) (length (b .dldrs))
@@ -44,17 +48,20 @@ exactAll w h map v hs vs =
     && (exact (w * h * v .channels) (length (v .values))
     && (exact (w * h * v .channels) (length (v .gradients)) && (exactSheet hedge w h hs && exactSheet vedge w h vs)))
 
+-- 6 to 8
+abbrev pub closing : List ℕ → List ℕ → ℕ → Sight → List Question
+closing tri map h s =
+    ask 6 (allBelow (length (s .vertices) / 3) tri)
+    ∷ ask 7 (namesFaces (length tri / 3) map)
+    ∷ ask 8 (bothAnswered h s)
+    ∷ []
+
 -- the questions, of the face list `tri2vtx`, the map `pix2tri`, what the pass sees, and the buffers lent
 unfoldable pub edgeCode : List ℕ → List ℕ → ℕ → Sight → Signal → Sheet → Sheet → ℕ
 edgeCode tri map h s v hs vs =
-    firstNo (ask 1 (sizes 1 (s .width) h)
-    ∷ ask 2 (channels (v .channels))
-    ∷ ask 3 (groups 3 (length tri) && groups 3 (length (s .vertices)))
-    ∷ ask 4 (exactAll (s .width) h map v hs vs)
-    ∷ ask 6 (allBelow (length (s .vertices) / 3) tri)
-    ∷ ask 7 (namesFaces (length tri / 3) map)
-    ∷ ask 8 (allAnswered hedge h s && allAnswered vedge h s)
-    ∷ [])
+    firstNo
+    (opening (s .width) h (v .channels) (length tri) (length (s .vertices))
+    ++ ask 4 (exactAll (s .width) h map v hs vs) ∷ closing tri map h s)
 
 -- the code, and both axes' buffers afterwards
 pub record Outcome : Type 0 where

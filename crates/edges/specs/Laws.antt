@@ -11,8 +11,9 @@ use borrow.Author.Tests.{eqb-false}
 use lib.Dec.{ltb, eqb}
 use lib.Ieee.{Float}
 use lib.ListN.{length, getD}
-use Rattle.questions.specs.Questions.{every, sizes, channels, groups, exact, allBelow, namesFace, namesFaces, empty}
-use Rattle.questions.specs.Laws.{both, sized, channelled, grouped, whole, exactly, accepted, every-at, below-at, face-below}
+use Rattle.questions.specs.Questions.{every, exact, allBelow, namesFace, namesFaces, empty}
+use Rattle.questions.specs.Laws.{Sized, Grouped, whole, both, exactly, accepted, every-at, below-at, face-below}
+use Rattle.questions.specs.Laws.Opening.{Opened, opened}
 use Rattle.geometry.specs.Leaf.{project}
 use Rattle.meshes.specs.Mesh.{vertexAt, faceAt}
 use Rattle.meshes.specs.View.{entryAt, named, viewOf}
@@ -44,12 +45,27 @@ entry-shown {tri} {map} {xyz} {w} {h} {p} {n} s k = ap (entryAt map) (sym (k .0)
 pub within-at : {i x y : ℕ} (w h right down : ℕ) → Walked (w - right) i x y → i < (h - down) * (w - right) → Within w h right down x y
 within-at w h right down k l = record { column = omega (arith, in-row (h - down) k l); row = omega (arith, in-column (h - down) k l) }
 
--- the first seven questions, answered yes
-pub ready : (tri map : List ℕ) (xyz : List Float) (w h : ℕ) (v : Signal) (hs vs : Sheet)
-    → sizes 1 w h ≡ true → channels (v .channels) ≡ true → groups 3 (length tri) ≡ true → groups 3 (length xyz) ≡ true → exactAll w h map v hs vs ≡ true
-    → allBelow (length xyz / 3) tri ≡ true → namesFaces (length tri / 3) map ≡ true → Ready tri map xyz w h v hs vs
+-- questions 1, 3, 4, 6 and 7 of the mesh and its map, answered yes
+pub sound : {tri map : List ℕ} {xyz : List Float} {w h : ℕ} → Sized 1 w h → Grouped 3 (length tri) → Grouped 3 (length xyz) → length map ≡ w * h
+    → allBelow (length xyz / 3) tri ≡ true → namesFaces (length tri / 3) map ≡ true → SoundMap tri xyz map w h
+sound {tri} {map} {xyz} q1 q3 q3' q4 q6 q7 =
+    record {
+      mesh = record { faces = whole 3 (length tri) q3; vertices = whole 3 (length xyz) q3'; named = q6 };
+      size = q1;
+      whole = q4;
+      named = q7;
+    }
+
+-- question 4 begins with the map's length
+pub whole-map : (w h : ℕ) (map : List ℕ) (v : Signal) (hs vs : Sheet) → exactAll w h map v hs vs ≡ true → length map ≡ w * h
 unfolding exactAll
-ready tri map xyz w h v hs vs q1 q2 q3 q3' q4 q6 q7 =
+whole-map w h map v hs vs e = exactly _ _ (both (exact (w * h) (length map)) _ e .0)
+
+-- the first seven questions, answered yes
+ready : (tri map : List ℕ) (xyz : List Float) (w h : ℕ) (v : Signal) (hs vs : Sheet) → Opened w h (v .channels) (length tri) (length xyz)
+    → exactAll w h map v hs vs ≡ true → allBelow (length xyz / 3) tri ≡ true → namesFaces (length tri / 3) map ≡ true → Ready tri map xyz w h v hs vs
+unfolding exactAll
+ready tri map xyz w h v hs vs o q4 q6 q7 =
     let a = both (exact (w * h) (length map)) _ q4 in
     let b = both (exact (w * h * v .channels) (length (v .values))) _ (a .1) in
     let c = both (exact (w * h * v .channels) (length (v .gradients))) _ (b .1) in
@@ -57,19 +73,8 @@ ready tri map xyz w h v hs vs q1 q2 q3 q3' q4 q6 q7 =
     let e = both (exact (edgeCount hedge w h) (length (hs .types))) _ (d .0) in
     let f = both (exact (edgeCount vedge w h) (length (vs .types))) _ (d .1) in
     record {
-      image =
-          record {
-            mesh = record { faces = whole 3 (length tri) (grouped 3 _ q3); vertices = whole 3 (length xyz) (grouped 3 _ q3'); named = q6 };
-            size = sized 1 w h q1;
-            whole = exactly _ _ (a .0);
-            named = q7;
-          };
-      signals =
-          record {
-            few = channelled _ q2;
-            values = exactly _ _ (b .0);
-            gradients = exactly _ _ (c .0);
-          };
+      image = sound (o .size) (o .faces) (o .vertices) (exactly _ _ (a .0)) q6 q7;
+      signals = record { few = o .few; values = exactly _ _ (b .0); gradients = exactly _ _ (c .0) };
       htypes = exactly _ _ (e .0);
       hdldrs = exactly _ _ (e .1);
       vtypes = exactly _ _ (f .0);
@@ -79,14 +84,11 @@ ready tri map xyz w h v hs vs q1 q2 q3 q3' q4 q6 q7 =
 pub edge-accepted : (tri map : List ℕ) (h : ℕ) (s : Sight) (v : Signal) (hs vs : Sheet) → edgeCode tri map h s v hs vs ≡ 0 → Ready tri map (s .vertices) (s .width) h v hs vs
 unfolding edgeCode
 edge-accepted tri map h s v hs vs e =
-    let a = accepted 0 (sizes 1 (s .width) h) _ e in
-    let b = accepted 1 (channels (v .channels)) _ (a .1) in
-    let c = accepted 2 (groups 3 (length tri) && groups 3 (length (s .vertices))) _ (b .1) in
-    let d = accepted 3 (exactAll (s .width) h map v hs vs) _ (c .1) in
-    let f = accepted 5 (allBelow (length (s .vertices) / 3) tri) _ (d .1) in
-    let g = accepted 6 (namesFaces (length tri / 3) map) _ (f .1) in
-    let k = both (groups 3 (length tri)) _ (c .0) in
-    ready tri map (s .vertices) (s .width) h v hs vs (a .0) (b .0) (k .0) (k .1) (d .0) (f .0) (g .0)
+    let o = opened (s .width) h (v .channels) (length tri) (length (s .vertices)) _ e in
+    let four = accepted 3 (exactAll (s .width) h map v hs vs) _ (o .1) in
+    let six = accepted 5 (allBelow (length (s .vertices) / 3) tri) _ (four .1) in
+    let seven = accepted 6 (namesFaces (length tri / 3) map) _ (six .1) in
+    ready tri map (s .vertices) (s .width) h v hs vs (o .0) (four .0) (six .0) (seven .0)
 
 -- ---- where every vertex has a projection, question 8 is answered yes at every pair
 

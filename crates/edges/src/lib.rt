@@ -1,13 +1,16 @@
 // Edges: the public call `edge_gradient_and_type`.
 
 ghost use mathlib.Core.Path.{_≡_};
-ghost use Prim.Native.Nat.{_≤_};
-ghost use Rattle.questions.specs.Laws.{Sized, Channels};
+ghost use Prim.Native.Nat.{_*_, _≤_};
+ghost use lib.ListN.{length};
+ghost use Rattle.questions.specs.Questions.{firstNo};
+ghost use Rattle.questions.specs.Laws.{Sized, Channels, Grouped};
 ghost use Rattle.meshes.specs.View.{viewOf};
 ghost use Rattle.pixels.specs.Edge.{axis};
 ghost use Rattle.edges.specs.Types.{sight};
 ghost use Rattle.edges.specs.Gradient.{signal};
-ghost use Rattle.edges.specs.Calls.{sheet, outcome, edgeCode, exactAll, exactSheet, edgeTyping};
+ghost use Rattle.edges.specs.Calls.{sheet, outcome, bothAnswered, closing, edgeCode, exactAll, exactSheet, edgeTyping};
+ghost use Rattle.edges.specs.Steps.{SoundMap};
 
 pub mod faces;
 pub mod pairs;
@@ -66,6 +69,53 @@ fn lengths_ok(
     sheet_ok(vedge2type, vedge2dldr, 1, 0, img_w, img_h)
 }
 
+// Question 8 of both axes.
+fn pairs_ok(
+    tri2vtx: &[u32],
+    vtx2xyz: &[f32],
+    m: &[f32; 16],
+    img_w: usize,
+    img_h: usize,
+    pix2tri: &[u32],
+) -> bool
+    requires { ⌜ SoundMap (now «tri2vtx») (now «vtx2xyz») (now «pix2tri») «img_w» «img_h» ⌝ }
+    ensures { λ r. ⌜ r ≡ bothAnswered «img_h»
+        (sight (viewOf (now («tri2vtx» .entry)) (now («pix2tri» .entry))) (now (m .entry)) (now («vtx2xyz» .entry)) «img_w») ⌝ }
+{
+    if !pairs::all_answered(tri2vtx, vtx2xyz, m, img_w, img_h, pix2tri, 0, 1) {
+        return false;
+    }
+    pairs::all_answered(tri2vtx, vtx2xyz, m, img_w, img_h, pix2tri, 1, 0)
+}
+
+// Questions 6 to 8.
+fn closing_code(
+    tri2vtx: &[u32],
+    vtx2xyz: &[f32],
+    m: &[f32; 16],
+    img_w: usize,
+    img_h: usize,
+    pix2tri: &[u32],
+) -> u32
+    requires { ⌜ Sized 1 «img_w» «img_h» ⌝ }
+    requires { ⌜ Grouped 3 (length (now «tri2vtx»)) ⌝ }
+    requires { ⌜ Grouped 3 (length (now «vtx2xyz»)) ⌝ }
+    requires { ⌜ length (now «pix2tri») ≡ «img_w» * «img_h» ⌝ }
+    ensures { λ r. ⌜ r ≡ firstNo (closing (now («tri2vtx» .entry)) (now («pix2tri» .entry)) «img_h»
+        (sight (viewOf (now («tri2vtx» .entry)) (now («pix2tri» .entry))) (now (m .entry)) (now («vtx2xyz» .entry)) «img_w»)) ⌝ }
+{
+    if !questions::all_below(vtx2xyz.len() / 3, tri2vtx) {
+        return 6;
+    }
+    if !questions::names_faces(tri2vtx.len() / 3, pix2tri) {
+        return 7;
+    }
+    if !pairs_ok(tri2vtx, vtx2xyz, m, img_w, img_h, pix2tri) {
+        return 8;
+    }
+    0
+}
+
 // Questions 1 to 8.
 fn edge_code(
     tri2vtx: &[u32],
@@ -87,17 +137,9 @@ fn edge_code(
         (signal (now («pix2val» .entry)) (now («dldw_pix2val» .entry)) «num_vdim»)
         (sheet (now («hedge2type» .entry)) (now («hedge2dldr» .entry))) (sheet (now («vedge2type» .entry)) (now («vedge2dldr» .entry))) ⌝ }
 {
-    if !questions::sizes_ok(1, img_w, img_h) {
-        return 1;
-    }
-    if !questions::channels_ok(num_vdim) {
-        return 2;
-    }
-    if !questions::groups_ok(3, tri2vtx.len()) {
-        return 3;
-    }
-    if !questions::groups_ok(3, vtx2xyz.len()) {
-        return 3;
+    let code = questions::opening_code(img_w, img_h, num_vdim, tri2vtx.len(), vtx2xyz.len());
+    if code != 0 {
+        return code;
     }
     if !lengths_ok(
         img_w,
@@ -113,37 +155,7 @@ fn edge_code(
     ) {
         return 4;
     }
-    if !questions::all_below(vtx2xyz.len() / 3, tri2vtx) {
-        return 6;
-    }
-    if !questions::names_faces(tri2vtx.len() / 3, pix2tri) {
-        return 7;
-    }
-    if !pairs::all_answered(
-        tri2vtx,
-        vtx2xyz,
-        transform_world2pix,
-        img_w,
-        img_h,
-        pix2tri,
-        0,
-        1,
-    ) {
-        return 8;
-    }
-    if !pairs::all_answered(
-        tri2vtx,
-        vtx2xyz,
-        transform_world2pix,
-        img_w,
-        img_h,
-        pix2tri,
-        1,
-        0,
-    ) {
-        return 8;
-    }
-    0
+    closing_code(tri2vtx, vtx2xyz, transform_world2pix, img_w, img_h, pix2tri)
 }
 
 // The type and the gradient `dldr` of every pair of neighbouring pixels.

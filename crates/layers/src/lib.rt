@@ -4,7 +4,7 @@ ghost use Rattle.questions.specs.Laws.{Sized};
 ghost use Rattle.layers.specs.Layer.{layer, outcome};
 ghost use Rattle.layers.specs.Calls.{exactLayer, clearCode, clearing, joinCode, joining};
 
-mod pixels;
+mod cells;
 
 // Question 4 of one layer, for the calls that are lent one.
 pub fn layer_ok(pix2tri: &[u32], pix2depth: &[f32], img_w: usize, img_h: usize) -> bool
@@ -63,8 +63,8 @@ pub fn clear(pix2tri: &mut [u32], pix2depth: &mut [f32], img_w: usize, img_h: us
     if code != 0 {
         return code;
     }
-    pixels::fill_numbers(pix2tri, questions::EMPTY);
-    pixels::fill_depths(pix2depth, -1.0 / 0.0);
+    cells::fill_numbers(pix2tri, questions::EMPTY);
+    cells::fill_depths(pix2depth, -1.0 / 0.0);
     0
 }
 
@@ -92,7 +92,7 @@ pub fn join(
     if code != 0 {
         return code;
     }
-    pixels::join_pixels(
+    cells::join_pixels(
         left_pix2tri,
         left_pix2depth,
         right_pix2tri,

@@ -1,14 +1,15 @@
 -- Proved of the questions, for the crates that ask them.
 use Prim.Native.Nat.{ℕ, zero, suc, _*_, _/_, _%_, _≤_, _<_}
 use mathlib.Core.Path.{_≡_, refl, sym, _∙_}
-use mathlib.Core.Bool.{Bool, true, false, not, _&&_, or-false, false≢true}
+use mathlib.Core.Bool.{Bool, true, false, not, _&&_, or-false, cond, false≢true}
 use mathlib.Core.List.{List, [], _∷_}
 use native.Mathlib.Nat.{mul-le-mul, div-add-mod, not-suc-le-zero, le-of-suc-le-suc}
 use native.Mathlib.Omega.{arith}
-use borrow.Author.Tests.{leb-true, ltb-true, eqb-true, ne-eqb, not-true, not-false}
+use borrow.Author.Tests.{leb-true, ltb-true, eqb-true, eq-eqb, ne-eqb, not-true, not-false}
 use lib.Dec.{leb, ltb, eqb}
 use lib.ListN.{length, getD}
-use Rattle.questions.specs.Questions.{Question, ask, firstNo, sizes, channels, groups, exact, every, allBelow, namesFace, empty, mostSize, mostChannels, mostCount}
+use Rattle.questions.specs.Questions.{Question, ask, firstNo, unlessRefused, sizes, channels, groups, exact, every, allBelow, namesFace, empty, mostSize, mostChannels, mostCount}
+pub mod Opening
 
 -- both halves of a conjunction that is true
 pub both : (a b : Bool) → a && b ≡ true → (a ≡ true) × (b ≡ true)
@@ -21,6 +22,42 @@ said-no {r} e n = sym e ∙ not-true r n
 
 pub said-yes : {r t : Bool} → r ≡ t → not r ≡ false → t ≡ true
 said-yes {r} e n = sym e ∙ not-false r n
+
+-- a branch in the code, by its test
+pub then-is : {A : Type 0} {b : Bool} {x : A} (y : A) → b ≡ true → x ≡ cond b x y
+then-is y e = rw e
+
+pub else-is : {A : Type 0} {b : Bool} (x : A) {y : A} → b ≡ false → y ≡ cond b x y
+else-is x e = rw e
+
+-- a conjunction whose first part is known
+pub after-yes : {a b v : Bool} → a ≡ true → b ≡ v → a && b ≡ v
+after-yes p q = rw (p, q)
+
+pub after-no : {a : Bool} (b : Bool) → a ≡ false → a && b ≡ false
+after-no b p = rw p
+
+-- how a call's code comes of its answers: a no gives the question's number ..
+pub refuses : (n : ℕ) {a : Bool} (qs : List Question) → a ≡ false → n ≡ firstNo (ask n a ∷ qs)
+unfolding firstNo
+refuses n qs e = rw e
+
+-- .. past a yes the questions after it decide ..
+pub passes : (n : ℕ) {a : Bool} (qs : List Question) {r : ℕ} → a ≡ true → r ≡ firstNo qs → r ≡ firstNo (ask n a ∷ qs)
+unfolding firstNo
+passes n qs e rest = rw e rest
+
+-- .. and past the last the code is 0
+pub ends : 0 ≡ firstNo []
+unfolding firstNo
+ends = refl
+
+-- what a refused call was lent, and what an accepted one was
+pub untouched : {A : Type 0} (code : ℕ) {before : A} (after : A) → (code ≡ 0 → ⊥) → before ≡ unlessRefused code before after
+untouched code after no0 = else-is after (ne-eqb code 0 no0)
+
+pub replaced : {A : Type 0} (code : ℕ) (before : A) {after : A} → code ≡ 0 → after ≡ unlessRefused code before after
+replaced code before e = then-is before (eq-eqb code 0 e)
 
 -- an accepted call: the first question is answered yes, and the others accept
 pub accepted : (n : ℕ) (a : Bool) (qs : List Question) → firstNo (ask (suc n) a ∷ qs) ≡ 0 → (a ≡ true) × (firstNo qs ≡ 0)
@@ -78,7 +115,15 @@ grouped of n e = let p = both (eqb (n % of) 0) _ e in record { rest = eqb-true _
 pub whole : (of n : ℕ) → Grouped of n → of * (n / of) ≡ n
 whole of n g = omega (arith, g .rest, div-add-mod n of)
 
--- what question 4 answered yes says
+-- question 4 answered by a length, and what a yes says
+pub exact-yes : (n length : ℕ) → length ≡ n → exact n length ≡ true
+unfolding exact
+exact-yes n length e = eq-eqb length n e
+
+pub exact-no : (n length : ℕ) → (length ≡ n → ⊥) → exact n length ≡ false
+unfolding exact
+exact-no n length e = ne-eqb length n e
+
 pub exactly : (n length : ℕ) → exact n length ≡ true → length ≡ n
 unfolding exact
 exactly n length e = eqb-true length n e

@@ -71,3 +71,7 @@ namesFace n x = ltb x n || eqb x empty
 
 abbrev pub namesFaces : ℕ → List ℕ → Bool
 namesFaces n = every (namesFace n)
+
+-- 1 to 3, of a pass over an image of a mesh with so many numbers in its face slice and its vertex slice
+abbrev pub opening : ℕ → ℕ → ℕ → ℕ → ℕ → List Question
+opening w h c tri xyz = ask 1 (sizes 1 w h) ∷ ask 2 (channels c) ∷ ask 3 (groups 3 tri && groups 3 xyz) ∷ []

@@ -1,7 +1,7 @@
 // 01, "The questions, in order": the answers that several calls share. Nothing here writes, and no function here is a public call.
 ghost use mathlib.Core.Path.{_≡_};
 ghost use Prim.Native.Nat.{_<_};
-ghost use Rattle.questions.specs.Questions.{sizes, channels, groups, numbers, allBelow, namesFace, namesFaces};
+ghost use Rattle.questions.specs.Questions.{firstNo, sizes, channels, groups, numbers, allBelow, namesFace, namesFaces, opening};
 
 const MOST_SIZE: usize = 4096;
 
@@ -95,4 +95,23 @@ pub fn names_faces(count: usize, pix2tri: &[u32]) -> bool
         i += 1;
     }
     true
+}
+
+// Questions 1 to 3.
+pub fn opening_code(w: usize, h: usize, c: usize, tri: usize, xyz: usize) -> u32
+    ensures { λ r. ⌜ r ≡ firstNo (opening w h c tri xyz) ⌝ }
+{
+    if !sizes_ok(1, w, h) {
+        return 1;
+    }
+    if !channels_ok(c) {
+        return 2;
+    }
+    if !groups_ok(3, tri) {
+        return 3;
+    }
+    if !groups_ok(3, xyz) {
+        return 3;
+    }
+    0
 }

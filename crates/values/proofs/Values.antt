@@ -8,10 +8,10 @@ use native.Mathlib.Omega.{arith}
 use lib.Ieee.{Float, nan}
 use lib.ListN.{length, getD, take, drop}
 use lib.Seq.{ext-getD}
-use borrow.Author.Tests.{ne-eqb}
 use Rattle.geometry.specs.Arith.{floats}
 use Rattle.geometry.specs.Vector.{Vec3, Weights, Triangle}
 use Rattle.geometry.specs.Formula.{blend}
+use Rattle.questions.specs.Laws.{untouched}
 use Rattle.pixels.specs.Laws.{number-below}
 use Rattle.rays.specs.Space.{Ray}
 use Rattle.rays.specs.Plane.{planeWeights}
@@ -130,7 +130,7 @@ module _ (value : ℕ → Float → Float) (w h c iy : ℕ) (old cur : List Floa
 module _ (g : Image) (s : Vertices) (tri map : List ℕ) (old : List Float) (code : ℕ) where
   pub refused : code ≡ interpolateCode g s tri map old → (code ≡ 0 → ⊥) → outcome code old ≡ interpolating g s tri map old
   unfolding interpolating
-  refused e no0 = rw (← e, ne-eqb code 0 no0)
+  refused e no0 = rw (← e) (ap (outcome code) (untouched code _ no0))
 
   pub done : (new : List Float) → code ≡ interpolateCode g s tri map old → code ≡ 0 → new ≡ interpolated g s (viewOf tri map) old
       → outcome 0 new ≡ interpolating g s tri map old

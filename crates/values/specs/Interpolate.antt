@@ -4,7 +4,7 @@ use mathlib.Core.Option.{Option, none, some}
 use mathlib.Core.List.{List, _∷_, _++_}
 use lib.Ieee.{Float, nan}
 use lib.ListN.{length, getD}
-use Rattle.questions.specs.Questions.{ask, firstNo, unlessRefused}
+use Rattle.questions.specs.Questions.{ask, firstNo, unlessRefused, opening}
 use Rattle.geometry.specs.Arith.{floats}
 use Rattle.geometry.specs.Vector.{Weights}
 use Rattle.geometry.specs.Formula.{blend}
@@ -14,7 +14,7 @@ use Rattle.meshes.specs.Mesh.{Face, cornersAt}
 use Rattle.meshes.specs.View.{View, viewOf}
 use Rattle.layers.specs.Layer.{tabulate}
 use Rattle.values.specs.Pass.{Image, Vertices, count, valueOf, rayOf}
-use Rattle.values.specs.Questions.{opening, exactPass, closing}
+use Rattle.values.specs.Questions.{exactPass, closing}
 
 -- the Rust's sum at channel j: bc0*v0 + bc1*v1 + bc2*v2
 unfoldable pub blendOf : Vertices → Face → Weights Float → ℕ → Float

@@ -5,7 +5,7 @@ use mathlib.Core.Option.{Option, none, some}
 use mathlib.Core.List.{List, [], _∷_}
 use lib.Ieee.{Float}
 use lib.ListN.{length}
-use Rattle.questions.specs.Questions.{Question, ask, sizes, channels, groups, exact, every, allBelow, namesFaces}
+use Rattle.questions.specs.Questions.{Question, ask, exact, every, allBelow, namesFaces}
 use Rattle.rays.specs.Space.{Ray}
 use Rattle.meshes.specs.Mesh.{Face}
 use Rattle.meshes.specs.View.{View, viewOf}
@@ -26,10 +26,6 @@ exactCounts w h c vertexCount map val pixels = exact (w * h) map && (exact (vert
 
 abbrev pub exactPass : Image → Vertices → List ℕ → List Float → Bool
 exactPass g s map pixels = exactCounts (g .w) (g .h) (s .channels) (count s) (length map) (length (s .val)) (length pixels)
-
--- 1 to 3
-abbrev pub opening : ℕ → ℕ → ℕ → ℕ → ℕ → List Question
-opening w h c tri xyz = ask 1 (sizes 1 w h) ∷ ask 2 (channels c) ∷ ask 3 (groups 3 tri && groups 3 xyz) ∷ []
 
 -- 6 to 8
 abbrev pub closing : Image → ℕ → List ℕ → List ℕ → List Question

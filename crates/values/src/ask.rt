@@ -8,27 +8,8 @@ ghost use Rattle.questions.specs.Laws.{Sized, Channels};
 ghost use Rattle.meshes.specs.View.{named, viewOf};
 ghost use Rattle.rays.specs.Pixel.{rayAt};
 ghost use Rattle.values.specs.Pass.{image, span, rayOf};
-ghost use Rattle.values.specs.Questions.{answered, raysAnswer, exactCounts, opening, closing};
+ghost use Rattle.values.specs.Questions.{answered, raysAnswer, exactCounts, closing};
 use rays::PixelRay;
-
-// Questions 1 to 3.
-pub fn opening_code(w: usize, h: usize, c: usize, tri: usize, xyz: usize) -> u32
-    ensures { λ r. ⌜ r ≡ firstNo (opening w h c tri xyz) ⌝ }
-{
-    if !questions::sizes_ok(1, w, h) {
-        return 1;
-    }
-    if !questions::channels_ok(c) {
-        return 2;
-    }
-    if !questions::groups_ok(3, tri) {
-        return 3;
-    }
-    if !questions::groups_ok(3, xyz) {
-        return 3;
-    }
-    0
-}
 
 // Question 4 of the buffers that both passes are lent, by their lengths.
 pub fn exact_ok(

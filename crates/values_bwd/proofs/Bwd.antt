@@ -7,7 +7,7 @@ use native.Mathlib.Nat.{zero-add, mul-comm}
 use native.Mathlib.Omega.{arith}
 use lib.Ieee.{Float}
 use lib.ListN.{length, getD}
-use borrow.Author.Tests.{ne-eqb}
+use Rattle.questions.specs.Laws.{untouched}
 use Rattle.geometry.specs.Arith.{floats}
 use Rattle.geometry.specs.Vector.{Vec3, Weights, Triangle}
 use Rattle.rays.specs.Space.{Ray}
@@ -78,7 +78,7 @@ module _ (g : Image) (s : Vertices) (v : View) (dldw : List Float) (w h iy : ℕ
 module _ (g : Image) (s : Vertices) (tri map : List ℕ) (dldw : List Float) (old : Sums) (code : ℕ) where
   pub refused : code ≡ bwdCode g s tri map dldw old → (code ≡ 0 → ⊥) → outcome code (old .xyz) (old .val) ≡ interpolatingBwd g s tri map dldw old
   unfolding interpolatingBwd
-  refused e no0 = rw (← e, ne-eqb code 0 no0)
+  refused e no0 = rw (← e) (ap (λ (k : Sums). outcome code (k .xyz) (k .val)) (untouched code _ no0))
 
   pub done : (new : Sums) → code ≡ bwdCode g s tri map dldw old → code ≡ 0 → new ≡ summedOver g s (viewOf tri map) dldw 0 (g .w * g .h) old
       → outcome 0 (new .xyz) (new .val) ≡ interpolatingBwd g s tri map dldw old

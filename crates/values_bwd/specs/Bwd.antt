@@ -4,11 +4,11 @@ use mathlib.Core.Bool.{Bool, _&&_}
 use mathlib.Core.List.{List, _∷_, _++_, flatMap}
 use lib.Ieee.{Float, nan}
 use lib.ListN.{length, getD}
-use Rattle.questions.specs.Questions.{ask, firstNo, unlessRefused, exact}
+use Rattle.questions.specs.Questions.{ask, firstNo, unlessRefused, exact, opening}
 use Rattle.meshes.specs.View.{View, viewOf}
 use Rattle.meshes.specs.Sums.{Addition, summed}
 use Rattle.values.specs.Pass.{Image, Vertices, count, span, rayOf}
-use Rattle.values.specs.Questions.{opening, exactPass, closing}
+use Rattle.values.specs.Questions.{exactPass, closing}
 use Rattle.values_bwd.specs.Additions.{pixelXyz, pixelVal}
 
 -- the incoming gradient of channel j at the pixel whose channels begin at `at`

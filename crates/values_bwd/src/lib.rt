@@ -22,7 +22,7 @@ fn interpolate_bwd_code(
     ensures { λ r. ⌜ r ≡ bwdCode (image w h (now (m .entry))) (vertices (now (vtx2xyz .entry)) c (now (vtx2val .entry)))
         (now (tri2vtx .entry)) (now (pix2tri .entry)) (now (dldw .entry)) (sums (now (dxyz .entry)) (now (dval .entry))) ⌝ }
 {
-    let code = values::ask::opening_code(w, h, c, tri2vtx.len(), vtx2xyz.len());
+    let code = questions::opening_code(w, h, c, tri2vtx.len(), vtx2xyz.len());
     if code != 0 {
         return code;
     }

@@ -3,11 +3,10 @@ use Prim.Native.Nat.{ℕ, _*_, _/_}
 use mathlib.Core.Path.{_≡_, ap}
 use mathlib.Core.Bool.{_&&_}
 use mathlib.Core.List.{List, []}
-use borrow.Author.Tests.{ne-eqb}
 use lib.Ieee.{Float}
 use lib.ListN.{length}
 use Rattle.questions.specs.Questions.{sizes, groups, exact}
-use Rattle.questions.specs.Laws.{Sized, sized, grouped, whole, both, exactly, accepted}
+use Rattle.questions.specs.Laws.{Sized, sized, grouped, whole, both, exactly, accepted, untouched}
 use Rattle.layers.specs.Layer.{tabulate}
 use Rattle.pixels.specs.Edge.{hedge, vedge, edgeCount}
 use Rattle.velocity.specs.Grid.{velocityAt}
@@ -41,7 +40,7 @@ module _ (w h : ℕ) (hs vs xy velo : List Float) where
   module _ (code : ℕ) (e : code ≡ velocityCode w h hs vs xy velo) where
     pub velocity-refused : (code ≡ 0 → ⊥) → outcome code velo ≡ velocities w h hs vs xy velo
     unfolding velocities answer
-    velocity-refused no0 = rw (← e, ne-eqb code 0 no0)
+    velocity-refused no0 = rw (← e) (ap (outcome code) (untouched code _ no0))
 
     pub velocity-done : (velo' : List Float) → code ≡ 0 → velo' ≡ tabulate (velocityAt w h hs vs xy) 0 (length xy) → outcome 0 velo' ≡ velocities w h hs vs xy velo
     unfolding velocities answer

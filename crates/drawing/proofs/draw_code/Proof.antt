@@ -1,7 +1,6 @@
 -- `drawing::draw_code`: the first question that is answered no.
 use borrow.Author.Needs.{needs}
-use Rattle.questions.specs.Questions.{firstNo}
-use Rattle.questions.specs.Laws.{sized, said-no, said-yes}
+use Rattle.questions.specs.Laws.{sized, said-no, said-yes, refuses, passes, ends}
 use Rattle.rules.specs.Calls.{drawCode}
 use Rattle.drawing.proofs.draw_code.Statement.{statement}
 use Rattle.drawing.proofs.draw_code.Tie as tie
@@ -10,69 +9,60 @@ sizes-ok-requires : tie.Need-sizes-ok-requires
 sizes-ok-requires c κs = search needs
 
 returns : tie.Need-returns
-unfolding drawCode firstNo
-returns c = rw (said-no (c .before .sizes-ok .ensures) (c .if1 .taken))
+unfolding drawCode
+returns c =
+    refuses 1 _ (said-no (c .before .sizes-ok .ensures) (c .if1 .taken))
 
 slices-ok-requires : tie.Need-slices-ok-requires
 slices-ok-requires c κs = search needs
 
 returns-2 : tie.Need-returns-2
-unfolding drawCode firstNo
+unfolding drawCode
 returns-2 c =
-    rw (
-      said-yes (c .before .before .before .sizes-ok .ensures) (c .before .before .if1 .left),
-      said-no (c .before .slices-ok .ensures) (c .if2 .taken),
-    )
+    passes 1 _ (said-yes (c .before .before .before .sizes-ok .ensures) (c .before .before .if1 .left))
+    (refuses 3 _ (said-no (c .before .slices-ok .ensures) (c .if2 .taken)))
 
 layer-ok-requires : tie.Need-layer-ok-requires
 layer-ok-requires c κs = sized 1 _ _ (said-yes (c .before .before .before .sizes-ok .ensures) (c .before .before .if1 .left))
 
 returns-3 : tie.Need-returns-3
-unfolding drawCode firstNo
+unfolding drawCode
 returns-3 c =
-    rw (
-      said-yes (c .before .before .before .before .before .sizes-ok .ensures) (c .before .before .before .before .if1 .left),
-      said-yes (c .before .before .before .slices-ok .ensures) (c .before .before .if2 .left),
-      said-no (c .before .layer-ok .ensures) (c .if3 .taken),
-    )
+    passes 1 _ (said-yes (c .before .before .before .before .before .sizes-ok .ensures) (c .before .before .before .before .if1 .left))
+    (passes 3 _ (said-yes (c .before .before .before .slices-ok .ensures) (c .before .before .if2 .left))
+    (refuses 4 _ (said-no (c .before .layer-ok .ensures) (c .if3 .taken))))
 
 numbers-ok-requires : tie.Need-numbers-ok-requires
 numbers-ok-requires c κs = search needs
 
 returns-4 : tie.Need-returns-4
-unfolding drawCode firstNo
+unfolding drawCode
 returns-4 c =
-    rw (
-      said-yes (c .before .before .before .before .before .before .before .sizes-ok .ensures) (c .before .before .before .before .before .before .if1 .left),
-      said-yes (c .before .before .before .before .before .slices-ok .ensures) (c .before .before .before .before .if2 .left),
-      said-yes (c .before .before .before .layer-ok .ensures) (c .before .before .if3 .left),
-      said-no (c .before .numbers-ok .ensures) (c .if4 .taken),
-    )
+    passes 1 _ (said-yes (c .before .before .before .before .before .before .before .sizes-ok .ensures) (c .before .before .before .before .before .before .if1 .left))
+    (passes 3 _ (said-yes (c .before .before .before .before .before .slices-ok .ensures) (c .before .before .before .before .if2 .left))
+    (passes 4 _ (said-yes (c .before .before .before .layer-ok .ensures) (c .before .before .if3 .left))
+    (refuses 5 _ (said-no (c .before .numbers-ok .ensures) (c .if4 .taken)))))
 
 all-below-requires : tie.Need-all-below-requires
 all-below-requires c κs = search needs
 
 returns-5 : tie.Need-returns-5
-unfolding drawCode firstNo
+unfolding drawCode
 returns-5 c =
-    rw (
-      said-yes (c .before .before .before .before .before .before .before .before .before .sizes-ok .ensures) (c .before .before .before .before .before .before .before .before .if1 .left),
-      said-yes (c .before .before .before .before .before .before .before .slices-ok .ensures) (c .before .before .before .before .before .before .if2 .left),
-      said-yes (c .before .before .before .before .before .layer-ok .ensures) (c .before .before .before .before .if3 .left),
-      said-yes (c .before .before .before .numbers-ok .ensures) (c .before .before .if4 .left),
-      said-no (c .before .all-below .ensures) (c .if5 .taken),
-    )
+    passes 1 _ (said-yes (c .before .before .before .before .before .before .before .before .before .sizes-ok .ensures) (c .before .before .before .before .before .before .before .before .if1 .left))
+    (passes 3 _ (said-yes (c .before .before .before .before .before .before .before .slices-ok .ensures) (c .before .before .before .before .before .before .if2 .left))
+    (passes 4 _ (said-yes (c .before .before .before .before .before .layer-ok .ensures) (c .before .before .before .before .if3 .left))
+    (passes 5 _ (said-yes (c .before .before .before .numbers-ok .ensures) (c .before .before .if4 .left))
+    (refuses 6 _ (said-no (c .before .all-below .ensures) (c .if5 .taken))))))
 
 returns-6 : tie.Need-returns-6
-unfolding drawCode firstNo
+unfolding drawCode
 returns-6 c =
-    rw (
-      said-yes (c .before .before .before .before .before .before .before .before .before .sizes-ok .ensures) (c .before .before .before .before .before .before .before .before .if1 .left),
-      said-yes (c .before .before .before .before .before .before .before .slices-ok .ensures) (c .before .before .before .before .before .before .if2 .left),
-      said-yes (c .before .before .before .before .before .layer-ok .ensures) (c .before .before .before .before .if3 .left),
-      said-yes (c .before .before .before .numbers-ok .ensures) (c .before .before .if4 .left),
-      said-yes (c .before .all-below .ensures) (c .if5 .left),
-    )
+    passes 1 _ (said-yes (c .before .before .before .before .before .before .before .before .before .sizes-ok .ensures) (c .before .before .before .before .before .before .before .before .if1 .left))
+    (passes 3 _ (said-yes (c .before .before .before .before .before .before .before .slices-ok .ensures) (c .before .before .before .before .before .before .if2 .left))
+    (passes 4 _ (said-yes (c .before .before .before .before .before .layer-ok .ensures) (c .before .before .before .before .if3 .left))
+    (passes 5 _ (said-yes (c .before .before .before .numbers-ok .ensures) (c .before .before .if4 .left))
+    (passes 6 _ (said-yes (c .before .all-below .ensures) (c .if5 .left)) ends))))
 
 pub draw-code-spec : {M : Type 1} → statement M
 draw-code-spec =

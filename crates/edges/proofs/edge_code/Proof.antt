@@ -1,193 +1,51 @@
-use Rattle.questions.specs.Questions.{firstNo}
-use Rattle.questions.specs.Laws.{sized, channelled, said-no, said-yes}
-use Rattle.edges.specs.Gradient.{signal}
-use Rattle.edges.specs.Calls.{sheet, edgeCode}
-use Rattle.edges.specs.Laws.{ready}
+use mathlib.Core.Path.{sym, _∙_}
+use mathlib.Core.List.{[]}
+use Rattle.questions.specs.Laws.{said-no, said-yes, refuses, passes}
+use Rattle.questions.specs.Laws.Opening.{first-refused, opened, past-opening}
+use Rattle.edges.specs.Calls.{edgeCode}
+use Rattle.edges.specs.Laws.{whole-map}
 use borrow.Author.Needs.{needs}
 use Rattle.edges.proofs.edge_code.Statement.{statement}
 use Rattle.edges.proofs.edge_code.Tie as tie
 
-sizes-ok-requires : tie.Need-sizes-ok-requires
-sizes-ok-requires c κs = search needs
+opening-code-requires : tie.Need-opening-code-requires
+opening-code-requires c κs = search needs
 
 returns : tie.Need-returns
-unfolding edgeCode firstNo
-returns c =
-    rw (said-no (c .before .sizes-ok .ensures) (c .if1 .taken))
-
-channels-ok-requires : tie.Need-channels-ok-requires
-channels-ok-requires c κs = search needs
-
-returns-2 : tie.Need-returns-2
-unfolding edgeCode firstNo
-returns-2 c =
-    rw (
-      said-yes (c .before .before .before .sizes-ok .ensures) (c .before .before .if1 .left),
-      said-no (c .before .channels-ok .ensures) (c .if2 .taken),
-    )
-
-groups-ok-requires : tie.Need-groups-ok-requires
-groups-ok-requires c κs = search needs
-
-returns-3 : tie.Need-returns-3
-unfolding edgeCode firstNo
-returns-3 c =
-    rw (
-      said-yes (c .before .before .before .before .before .sizes-ok .ensures) (c .before .before .before .before .if1 .left),
-      said-yes (c .before .before .before .channels-ok .ensures) (c .before .before .if2 .left),
-      said-no (c .before .groups-ok .ensures) (c .if3 .taken),
-    )
-
-groups-ok-requires-2 : tie.Need-groups-ok-requires-2
-groups-ok-requires-2 c κs = search needs
-
-returns-4 : tie.Need-returns-4
-unfolding edgeCode firstNo
-returns-4 c =
-    rw (
-      said-yes (c .before .before .before .before .before .before .before .sizes-ok .ensures) (c .before .before .before .before .before .before .if1 .left),
-      said-yes (c .before .before .before .before .before .channels-ok .ensures) (c .before .before .before .before .if2 .left),
-      said-yes (c .before .before .before .groups-ok .ensures) (c .before .before .if3 .left),
-      said-no (c .before .groups-ok2 .ensures) (c .if4 .taken),
-    )
+unfolding edgeCode
+returns c = c .before .opening-code .ensures ∙ first-refused _ _ (λ z. c .if1 .taken (c .before .opening-code .ensures ∙ z))
 
 lengths-ok-requires : tie.Need-lengths-ok-requires
-lengths-ok-requires c κs = (sized 1 _ _ (said-yes (c .before .before .before .before .before .before .before .sizes-ok .ensures) (c .before .before .before .before .before .before .if1 .left)), channelled _ (said-yes (c .before .before .before .before .before .channels-ok .ensures) (c .before .before .before .before .if2 .left)))
+lengths-ok-requires c κs =
+    let o = opened _ _ _ _ _ [] (sym (c .before .opening-code .ensures) ∙ c .if1 .left) .0 in (o .size, o .few)
 
-returns-5 : tie.Need-returns-5
-unfolding edgeCode firstNo
-returns-5 c =
-    rw (
-      said-yes (c .before .before .before .before .before .before .before .before .before .sizes-ok .ensures) (c .before .before .before .before .before .before .before .before .if1 .left),
-      said-yes (c .before .before .before .before .before .before .before .channels-ok .ensures) (c .before .before .before .before .before .before .if2 .left),
-      said-yes (c .before .before .before .before .before .groups-ok .ensures) (c .before .before .before .before .if3 .left),
-      said-yes (c .before .before .before .groups-ok2 .ensures) (c .before .before .if4 .left),
-      said-no (c .before .lengths-ok .ensures) (c .if5 .taken),
-    )
+returns-2 : tie.Need-returns-2
+unfolding edgeCode
+returns-2 c =
+    let first = c .before .before in
+    past-opening _ _ _ _ _ _ (sym (first .before .opening-code .ensures) ∙ first .if1 .left) (refuses 4 _ (said-no (c .before .lengths-ok .ensures) (c .if2 .taken)))
 
-all-below-requires : tie.Need-all-below-requires
-all-below-requires c κs = search needs
+closing-code-requires : tie.Need-closing-code-requires
+closing-code-requires c κs =
+    let first = c .before .before in
+    let o = opened _ _ _ _ _ [] (sym (first .before .opening-code .ensures) ∙ first .if1 .left) .0 in
+    (o .size, (o .faces, (o .vertices, whole-map _ _ _ _ _ _ (said-yes (c .before .lengths-ok .ensures) (c .if2 .left)))))
 
-returns-6 : tie.Need-returns-6
-unfolding edgeCode firstNo
-returns-6 c =
-    rw (
-      said-yes (c .before .before .before .before .before .before .before .before .before .before .before .sizes-ok .ensures) (c .before .before .before .before .before .before .before .before .before .before .if1 .left),
-      said-yes (c .before .before .before .before .before .before .before .before .before .channels-ok .ensures) (c .before .before .before .before .before .before .before .before .if2 .left),
-      said-yes (c .before .before .before .before .before .before .before .groups-ok .ensures) (c .before .before .before .before .before .before .if3 .left),
-      said-yes (c .before .before .before .before .before .groups-ok2 .ensures) (c .before .before .before .before .if4 .left),
-      said-yes (c .before .before .before .lengths-ok .ensures) (c .before .before .if5 .left),
-      said-no (c .before .all-below .ensures) (c .if6 .taken),
-    )
-
-names-faces-requires : tie.Need-names-faces-requires
-names-faces-requires c κs = search needs
-
-returns-7 : tie.Need-returns-7
-unfolding edgeCode firstNo
-returns-7 c =
-    rw (
-      said-yes (c .before .before .before .before .before .before .before .before .before .before .before .before .before .sizes-ok .ensures) (c .before .before .before .before .before .before .before .before .before .before .before .before .if1 .left),
-      said-yes (c .before .before .before .before .before .before .before .before .before .before .before .channels-ok .ensures) (c .before .before .before .before .before .before .before .before .before .before .if2 .left),
-      said-yes (c .before .before .before .before .before .before .before .before .before .groups-ok .ensures) (c .before .before .before .before .before .before .before .before .if3 .left),
-      said-yes (c .before .before .before .before .before .before .before .groups-ok2 .ensures) (c .before .before .before .before .before .before .if4 .left),
-      said-yes (c .before .before .before .before .before .lengths-ok .ensures) (c .before .before .before .before .if5 .left),
-      said-yes (c .before .before .before .all-below .ensures) (c .before .before .if6 .left),
-      said-no (c .before .names-faces .ensures) (c .if7 .taken),
-    )
-
-all-answered-requires : tie.Need-all-answered-requires
-all-answered-requires c κs =
-    let known =
-    ready _ _ _ _ _ (signal _ _ _) (sheet _ _) (sheet _ _)
-    (said-yes (c .before .before .before .before .before .before .before .before .before .before .before .before .before .sizes-ok .ensures) (c .before .before .before .before .before .before .before .before .before .before .before .before .if1 .left))
-    (said-yes (c .before .before .before .before .before .before .before .before .before .before .before .channels-ok .ensures) (c .before .before .before .before .before .before .before .before .before .before .if2 .left))
-    (said-yes (c .before .before .before .before .before .before .before .before .before .groups-ok .ensures) (c .before .before .before .before .before .before .before .before .if3 .left))
-    (said-yes (c .before .before .before .before .before .before .before .groups-ok2 .ensures) (c .before .before .before .before .before .before .if4 .left))
-    (said-yes (c .before .before .before .before .before .lengths-ok .ensures) (c .before .before .before .before .if5 .left))
-    (said-yes (c .before .before .before .all-below .ensures) (c .before .before .if6 .left))
-    (said-yes (c .before .names-faces .ensures) (c .if7 .left))
-    in
-    (known .image, search needs)
-
-returns-8 : tie.Need-returns-8
-unfolding edgeCode firstNo
-returns-8 c =
-    rw (
-      said-yes (c .before .before .before .before .before .before .before .before .before .before .before .before .before .before .before .sizes-ok .ensures) (c .before .before .before .before .before .before .before .before .before .before .before .before .before .before .if1 .left),
-      said-yes (c .before .before .before .before .before .before .before .before .before .before .before .before .before .channels-ok .ensures) (c .before .before .before .before .before .before .before .before .before .before .before .before .if2 .left),
-      said-yes (c .before .before .before .before .before .before .before .before .before .before .before .groups-ok .ensures) (c .before .before .before .before .before .before .before .before .before .before .if3 .left),
-      said-yes (c .before .before .before .before .before .before .before .before .before .groups-ok2 .ensures) (c .before .before .before .before .before .before .before .before .if4 .left),
-      said-yes (c .before .before .before .before .before .before .before .lengths-ok .ensures) (c .before .before .before .before .before .before .if5 .left),
-      said-yes (c .before .before .before .before .before .all-below .ensures) (c .before .before .before .before .if6 .left),
-      said-yes (c .before .before .before .names-faces .ensures) (c .before .before .if7 .left),
-      said-no (c .before .all-answered .ensures) (c .if8 .taken),
-    )
-
-all-answered-requires-2 : tie.Need-all-answered-requires-2
-all-answered-requires-2 c κs =
-    let known =
-    ready _ _ _ _ _ (signal _ _ _) (sheet _ _) (sheet _ _)
-    (said-yes (c .before .before .before .before .before .before .before .before .before .before .before .before .before .before .before .sizes-ok .ensures) (c .before .before .before .before .before .before .before .before .before .before .before .before .before .before .if1 .left))
-    (said-yes (c .before .before .before .before .before .before .before .before .before .before .before .before .before .channels-ok .ensures) (c .before .before .before .before .before .before .before .before .before .before .before .before .if2 .left))
-    (said-yes (c .before .before .before .before .before .before .before .before .before .before .before .groups-ok .ensures) (c .before .before .before .before .before .before .before .before .before .before .if3 .left))
-    (said-yes (c .before .before .before .before .before .before .before .before .before .groups-ok2 .ensures) (c .before .before .before .before .before .before .before .before .if4 .left))
-    (said-yes (c .before .before .before .before .before .before .before .lengths-ok .ensures) (c .before .before .before .before .before .before .if5 .left))
-    (said-yes (c .before .before .before .before .before .all-below .ensures) (c .before .before .before .before .if6 .left))
-    (said-yes (c .before .before .before .names-faces .ensures) (c .before .before .if7 .left))
-    in
-    (known .image, search needs)
-
-returns-9 : tie.Need-returns-9
-unfolding edgeCode firstNo
-returns-9 c =
-    rw (
-      said-yes (c .before .before .before .before .before .before .before .before .before .before .before .before .before .before .before .before .before .sizes-ok .ensures) (c .before .before .before .before .before .before .before .before .before .before .before .before .before .before .before .before .if1 .left),
-      said-yes (c .before .before .before .before .before .before .before .before .before .before .before .before .before .before .before .channels-ok .ensures) (c .before .before .before .before .before .before .before .before .before .before .before .before .before .before .if2 .left),
-      said-yes (c .before .before .before .before .before .before .before .before .before .before .before .before .before .groups-ok .ensures) (c .before .before .before .before .before .before .before .before .before .before .before .before .if3 .left),
-      said-yes (c .before .before .before .before .before .before .before .before .before .before .before .groups-ok2 .ensures) (c .before .before .before .before .before .before .before .before .before .before .if4 .left),
-      said-yes (c .before .before .before .before .before .before .before .before .before .lengths-ok .ensures) (c .before .before .before .before .before .before .before .before .if5 .left),
-      said-yes (c .before .before .before .before .before .before .before .all-below .ensures) (c .before .before .before .before .before .before .if6 .left),
-      said-yes (c .before .before .before .before .before .names-faces .ensures) (c .before .before .before .before .if7 .left),
-      said-yes (c .before .before .before .all-answered .ensures) (c .before .before .if8 .left),
-      said-no (c .before .all-answered2 .ensures) (c .if9 .taken),
-    )
-
-returns-10 : tie.Need-returns-10
-unfolding edgeCode firstNo
-returns-10 c =
-    rw (
-      said-yes (c .before .before .before .before .before .before .before .before .before .before .before .before .before .before .before .before .before .sizes-ok .ensures) (c .before .before .before .before .before .before .before .before .before .before .before .before .before .before .before .before .if1 .left),
-      said-yes (c .before .before .before .before .before .before .before .before .before .before .before .before .before .before .before .channels-ok .ensures) (c .before .before .before .before .before .before .before .before .before .before .before .before .before .before .if2 .left),
-      said-yes (c .before .before .before .before .before .before .before .before .before .before .before .before .before .groups-ok .ensures) (c .before .before .before .before .before .before .before .before .before .before .before .before .if3 .left),
-      said-yes (c .before .before .before .before .before .before .before .before .before .before .before .groups-ok2 .ensures) (c .before .before .before .before .before .before .before .before .before .before .if4 .left),
-      said-yes (c .before .before .before .before .before .before .before .before .before .lengths-ok .ensures) (c .before .before .before .before .before .before .before .before .if5 .left),
-      said-yes (c .before .before .before .before .before .before .before .all-below .ensures) (c .before .before .before .before .before .before .if6 .left),
-      said-yes (c .before .before .before .before .before .names-faces .ensures) (c .before .before .before .before .if7 .left),
-      said-yes (c .before .before .before .all-answered .ensures) (c .before .before .if8 .left),
-      said-yes (c .before .all-answered2 .ensures) (c .if9 .left),
-    )
+returns-3 : tie.Need-returns-3
+unfolding edgeCode
+returns-3 c =
+    let second = c .before in
+    let first = second .before .before in
+    past-opening _ _ _ _ _ _ (sym (first .before .opening-code .ensures) ∙ first .if1 .left)
+    (passes 4 _ (said-yes (second .before .lengths-ok .ensures) (second .if2 .left)) (c .closing-code .ensures))
 
 pub edge-code-spec : {M : Type 1} → statement M
 edge-code-spec =
     tie.close
     (tie.spec
-    sizes-ok-requires
+    opening-code-requires
     returns
-    channels-ok-requires
-    returns-2
-    groups-ok-requires
-    returns-3
-    groups-ok-requires-2
-    returns-4
     lengths-ok-requires
-    returns-5
-    all-below-requires
-    returns-6
-    names-faces-requires
-    returns-7
-    all-answered-requires
-    returns-8
-    all-answered-requires-2
-    returns-9
-    returns-10)
+    returns-2
+    closing-code-requires
+    returns-3)

@@ -49,7 +49,7 @@ returns-3 c =
       first .near .given .1,
       ← (second .before .before .project2 .ensures),
       second .far .given .1,
-      ← (c .minus3 .ensures),
+      c .minus3 .ensures,
     )
 
 pub ray-at-spec : {M : Type 1} → statement M

@@ -17,7 +17,13 @@ jacobian-column-requires-3 c κs = search needs
 
 returns : tie.Need-returns
 unfolding jacobian jacobianAt
-returns c = cc
+returns c =
+    rw (
+      c .before .before .jacobian-column .ensures,
+      c .before .jacobian-column2 .ensures,
+      c .jacobian-column3 .ensures,
+      c .before .before .before .untested .ensures,
+    )
 
 pub jacobian-transform-spec : {M : Type 1} → statement M
 jacobian-transform-spec =

@@ -14,7 +14,7 @@ dot3-requires-3 c κs = search needs
 
 returns : tie.Need-returns
 unfolding multMat3
-returns c = cc
+returns c = rw (c .before .before .dot3 .ensures, c .before .dot32 .ensures, c .dot33 .ensures)
 
 pub mult-mat3-col-major-spec : {M : Type 1} → statement M
 mult-mat3-col-major-spec =

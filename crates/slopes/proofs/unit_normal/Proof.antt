@@ -1,5 +1,8 @@
+use mathlib.Core.Path.{_∙_, ap, ap₂}
+use Rattle.geometry.specs.Arith.{floats}
+use Rattle.rays.specs.Space.{cross3}
 use Rattle.rays.specs.Plane.{normal}
-use Rattle.slopes.specs.Normal.{unitNormal}
+use Rattle.slopes.specs.Normal.{unit, unitNormal}
 use borrow.Author.Needs.{needs}
 use Rattle.slopes.proofs.unit_normal.Statement.{statement}
 use Rattle.slopes.proofs.unit_normal.Tie as tie
@@ -18,7 +21,7 @@ unit-requires c κs = search needs
 
 returns : tie.Need-returns
 unfolding unitNormal normal
-returns c = cc
+returns c = c .unit .ensures ∙ ap unit (c .before .cross3 .ensures ∙ ap₂ (cross3 floats) (c .before .before .before .minus3 .ensures) (c .before .before .minus32 .ensures))
 
 pub unit-normal-spec : {M : Type 1} → statement M
 unit-normal-spec =

@@ -10,69 +10,14 @@ use lib.Ieee.{Float}
 use lib.ListN.{length, getD}
 use Rattle.questions.specs.Questions.{Question, ask, firstNo, sizes, channels, groups, exact, allBelow, namesFace, namesFaces, empty, mostCount}
 use Rattle.questions.specs.Laws.{Sized, sized, Channels, channelled, grouped, both, accepted, exactly, every-at, below-at, face-below}
+use Rattle.questions.specs.Laws.Opening.{Opened, opened}
 use Rattle.meshes.specs.Mesh.{Face, faceAt}
 use Rattle.meshes.specs.View.{named}
 use Rattle.meshes.specs.Laws.{named-some}
 use Rattle.values.specs.Pass.{Image, Vertices, count}
-use Rattle.values.specs.Questions.{opening, exactCounts, exactPass, closing}
+use Rattle.values.specs.Questions.{exactCounts, exactPass, closing}
 use Rattle.values.specs.Interpolate.{interpolateCode}
 use Rattle.values.specs.Steps.{Vertex, FaceOf, Entry, Mesh, Map}
-
--- the first questions refuse, and so does the call
-pub first-refused : (qs rest : List Question) → (firstNo qs ≡ 0 → ⊥) → firstNo qs ≡ firstNo (qs ++ rest)
-unfolding firstNo
-first-refused [] rest no0 = absurd (no0 refl)
-first-refused (q ∷ qs) rest no0 = go (q .answer) (first-refused qs rest) no0
-  where
-    go : (a : Bool) → ((firstNo qs ≡ 0 → ⊥) → firstNo qs ≡ firstNo (qs ++ rest)) → (cond a (firstNo qs) (q .number) ≡ 0 → ⊥)
-        → cond a (firstNo qs) (q .number) ≡ cond a (firstNo (qs ++ rest)) (q .number)
-    go true more no0 = more no0
-    go false more no0 = refl
-
--- ---- questions 1 to 3
-
-pub record Opened (w h c tri xyz : ℕ) : Type 0 where
-  pub sized : Sized 1 w h
-  pub few : Channels c
-  pub faces : tri / 3 ≤ mostCount
-  pub vertices : xyz / 3 ≤ mostCount
-
-module _ (w h c tri xyz : ℕ) (rest : List Question) where
-  answers : firstNo (opening w h c tri xyz ++ rest) ≡ 0
-      → (sizes 1 w h ≡ true) × (channels c ≡ true) × (groups 3 tri && groups 3 xyz ≡ true) × (firstNo rest ≡ 0)
-  answers e =
-      let one = accepted 0 (sizes 1 w h) _ e in
-      let two = accepted 1 (channels c) _ (one .1) in
-      let three = accepted 2 (groups 3 tri && groups 3 xyz) _ (two .1) in
-      (one .0, two .0, three .0, three .1)
-
-  pub opened : firstNo (opening w h c tri xyz ++ rest) ≡ 0 → Opened w h c tri xyz × (firstNo rest ≡ 0)
-  opened e =
-      let a = answers e in
-      let both3 = both (groups 3 tri) _ (a .2) in (
-        record {
-          sized = sized 1 w h (a .0);
-          few = channelled c (a .1);
-          faces = grouped 3 tri (both3 .0) .most;
-          vertices = grouped 3 xyz (both3 .1) .most;
-        },
-        a .3,
-      )
-
--- the questions that follow decide
-pub past-opening : (w h c tri xyz : ℕ) (rest : List Question) → firstNo (opening w h c tri xyz) ≡ 0 → firstNo rest ≡ firstNo (opening w h c tri xyz ++ rest)
-unfolding firstNo
-past-opening w h c tri xyz rest e = let a = answers w h c tri xyz [] e in rw (a .0, a .1, a .2)
-
--- question 4 after them
-module _ (w h c tri xyz : ℕ) (four : Bool) (rest : List Question) (open0 : firstNo (opening w h c tri xyz) ≡ 0) where
-  pub refused-4 : four ≡ false → 4 ≡ firstNo (opening w h c tri xyz ++ ask 4 four ∷ rest)
-  unfolding firstNo
-  refused-4 e = let p : 4 ≡ firstNo (ask 4 four ∷ rest) = rw e in p ∙ past-opening w h c tri xyz (ask 4 four ∷ rest) open0
-
-  pub past-4 : four ≡ true → firstNo rest ≡ firstNo (opening w h c tri xyz ++ ask 4 four ∷ rest)
-  unfolding firstNo
-  past-4 e = let p : firstNo rest ≡ firstNo (ask 4 four ∷ rest) = rw e in p ∙ past-opening w h c tri xyz (ask 4 four ∷ rest) open0
 
 -- ---- questions 4, 6 and 7
 
@@ -118,11 +63,11 @@ module _ (g : Image) (s : Vertices) (tri map : List ℕ) (pixels : ℕ) where
         mesh =
             record {
               channels = o .few;
-              corner = λ i h. vertex-at s (o .vertices) (k .1) (getD tri i 0) (below-at (count s) tri (six .0) i h);
+              corner = λ i h. vertex-at s (o .vertices .most) (k .1) (getD tri i 0) (below-at (count s) tri (six .0) i h);
             };
         map =
             record {
-              sized = o .sized;
+              sized = o .size;
               whole = k .0;
               entries = λ p h. entry-at tri (getD map p 0) (every-at (namesFace (length tri / 3)) map (seven .0) p (omega (arith, k .0)));
             };

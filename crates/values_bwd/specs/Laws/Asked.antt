@@ -8,9 +8,10 @@ use lib.ListN.{length}
 use borrow.Author.Tests.{eq-eqb, ne-eqb}
 use Rattle.questions.specs.Questions.{exact}
 use Rattle.questions.specs.Laws.{both, accepted, exactly}
+use Rattle.questions.specs.Laws.Opening.{opened}
 use Rattle.values.specs.Pass.{Image, Vertices, count}
 use Rattle.values.specs.Questions.{exactPass, closing}
-use Rattle.values.specs.Laws.Asked.{Ready, opened, exact-parts, ready}
+use Rattle.values.specs.Laws.Asked.{Ready, exact-parts, ready}
 use Rattle.values_bwd.specs.Bwd.{Sums, exactSums, bwdCode}
 
 module _ (s : Vertices) (old : Sums) where
@@ -26,13 +27,6 @@ module _ (s : Vertices) (old : Sums) where
     pub both-exact : length (old .val) ≡ length (s .val) → exactSums s old ≡ true
     unfolding exactSums exact
     both-exact e = rw (eq-eqb _ _ same, eq-eqb (length (old .val)) (count s * s .channels) (e ∙ val))
-
--- a conjunction whose first part is known
-pub after-yes : {a b v : Bool} → a ≡ true → b ≡ v → a && b ≡ v
-after-yes p q = rw (p, q)
-
-pub after-no : (a b : Bool) → a ≡ false → a && b ≡ false
-after-no a b p = rw p
 
 exact-lengths : (s : Vertices) (old : Sums) → exactSums s old ≡ true → (length (old .xyz) ≡ length (s .xyz)) × (length (old .val) ≡ count s * s .channels)
 unfolding exactSums

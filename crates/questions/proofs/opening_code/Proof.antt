@@ -1,0 +1,56 @@
+use Rattle.questions.specs.Laws.{said-no, said-yes, after-no, after-yes, refuses, passes, ends}
+use borrow.Author.Needs.{needs}
+use Rattle.questions.proofs.opening_code.Statement.{statement}
+use Rattle.questions.proofs.opening_code.Tie as tie
+
+sizes-ok-requires : tie.Need-sizes-ok-requires
+sizes-ok-requires c κs = search needs
+
+returns : tie.Need-returns
+returns c = refuses 1 _ (said-no (c .before .sizes-ok .ensures) (c .if1 .taken))
+
+channels-ok-requires : tie.Need-channels-ok-requires
+channels-ok-requires c κs = search needs
+
+returns-2 : tie.Need-returns-2
+returns-2 c =
+    passes 1 _ (said-yes (c .before .before .before .sizes-ok .ensures) (c .before .before .if1 .left))
+    (refuses 2 _ (said-no (c .before .channels-ok .ensures) (c .if2 .taken)))
+
+groups-ok-requires : tie.Need-groups-ok-requires
+groups-ok-requires c κs = search needs
+
+returns-3 : tie.Need-returns-3
+returns-3 c =
+    passes 1 _ (said-yes (c .before .before .before .before .before .sizes-ok .ensures) (c .before .before .before .before .if1 .left))
+    (passes 2 _ (said-yes (c .before .before .before .channels-ok .ensures) (c .before .before .if2 .left))
+    (refuses 3 _ (after-no _ (said-no (c .before .groups-ok .ensures) (c .if3 .taken)))))
+
+groups-ok-requires-2 : tie.Need-groups-ok-requires-2
+groups-ok-requires-2 c κs = search needs
+
+returns-4 : tie.Need-returns-4
+returns-4 c =
+    passes 1 _ (said-yes (c .before .before .before .before .before .before .before .sizes-ok .ensures) (c .before .before .before .before .before .before .if1 .left))
+    (passes 2 _ (said-yes (c .before .before .before .before .before .channels-ok .ensures) (c .before .before .before .before .if2 .left))
+    (refuses 3 _ (after-yes (said-yes (c .before .before .before .groups-ok .ensures) (c .before .before .if3 .left)) (said-no (c .before .groups-ok2 .ensures) (c .if4 .taken)))))
+
+returns-5 : tie.Need-returns-5
+returns-5 c =
+    passes 1 _ (said-yes (c .before .before .before .before .before .before .before .sizes-ok .ensures) (c .before .before .before .before .before .before .if1 .left))
+    (passes 2 _ (said-yes (c .before .before .before .before .before .channels-ok .ensures) (c .before .before .before .before .if2 .left))
+    (passes 3 _ (after-yes (said-yes (c .before .before .before .groups-ok .ensures) (c .before .before .if3 .left)) (said-yes (c .before .groups-ok2 .ensures) (c .if4 .left))) ends))
+
+pub opening-code-spec : {M : Type 1} → statement M
+opening-code-spec =
+    tie.close
+    (tie.spec
+    sizes-ok-requires
+    returns
+    channels-ok-requires
+    returns-2
+    groups-ok-requires
+    returns-3
+    groups-ok-requires-2
+    returns-4
+    returns-5)

@@ -1,0 +1,1 @@
+// The gradients are true: theorems, in specs/. There is no code here.
