@@ -93,29 +93,7 @@ module _ {m xyz : List Float} {f0 f1 : Face} {x0 x1 : Triangle (Vec3 Float)} {t0
       go true h0 h1 e0 e1 = refl
       go false h0 h1 e0 e1 = ap₂ _&&_ e0 (e1 ∙ sym (and-true (weighable m xyz h1)))
 
-  -- the four cases, of what is added ..
-  module _ (d : Float) where
-    pub adds-both : allInside (weightsIn q0 (some t1)) ≡ true → allInside (weightsIn q1 (some t0)) ≡ true
-        → givenCrossing m axis d f0 f1 x0 x1 t0 t1 q0 q1 ≡ flatMap (additionsOf m xyz d) (between axis m xyz (some f0) (some f1) q0 q1)
-    unfolding received
-    adds-both p q = crossing-adds d ∙ ap (flatMap (additionsOf m xyz d)) (sym (between-is true true p q))
-
-    pub adds-first : allInside (weightsIn q0 (some t1)) ≡ true → allInside (weightsIn q1 (some t0)) ≡ false
-        → given m f0 x0 t0 q0 (along axis d) ≡ flatMap (additionsOf m xyz d) (between axis m xyz (some f0) (some f1) q0 q1)
-    unfolding received
-    adds-first p q = one-adds o0 d q0 axis ∙ ap (flatMap (additionsOf m xyz d)) (sym (between-is true false p q))
-
-    pub adds-second : allInside (weightsIn q0 (some t1)) ≡ false → allInside (weightsIn q1 (some t0)) ≡ true
-        → given m f1 x1 t1 q1 (along axis d) ≡ flatMap (additionsOf m xyz d) (between axis m xyz (some f0) (some f1) q0 q1)
-    unfolding received
-    adds-second p q = one-adds o1 d q1 axis ∙ ap (flatMap (additionsOf m xyz d)) (sym (between-is false true p q))
-
-    pub adds-neither : allInside (weightsIn q0 (some t1)) ≡ false → allInside (weightsIn q1 (some t0)) ≡ false
-        → [] ≡ flatMap (additionsOf m xyz d) (between axis m xyz (some f0) (some f1) q0 q1)
-    unfolding received flatMap
-    adds-neither p q = ap (flatMap (additionsOf m xyz d)) (sym (between-is false false p q))
-
-  -- .. and of question 9
+  -- the four cases of question 9
   pub weighs-both : allInside (weightsIn q0 (some t1)) ≡ true → allInside (weightsIn q1 (some t0)) ≡ true
       → crossingAnswered axis t0 t1 q0 q1 ≡ weighableAll m xyz (between axis m xyz (some f0) (some f1) q0 q1)
   unfolding received
@@ -135,6 +113,37 @@ module _ {m xyz : List Float} {f0 f1 : Face} {x0 x1 : Triangle (Vec3 Float)} {t0
       → true ≡ weighableAll m xyz (between axis m xyz (some f0) (some f1) q0 q1)
   unfolding received weighableAll
   weighs-neither p q = ap (weighableAll m xyz) (sym (between-is false false p q))
+
+-- what is added, by the two tests
+module _ (m xyz : List Float) (f0 f1 : Face) (axis : ℕ) (q0 q1 : Vec2 Float) (d : Float) where
+  tested : (b c : Bool) → contains allInside m xyz (some f1) q0 ≡ b → contains allInside m xyz (some f0) q1 ≡ c
+      → received b c (together axis m xyz (some f0) (some f1) q0 q1) (share f0 q0 (along axis) ∷ []) (share f1 q1 (along axis) ∷ []) ≡ between axis m xyz (some f0) (some f1) q0 q1
+  unfolding between alone
+  tested b c eb ec = rw (eb, ec)
+
+  pub adds-both : {x0 x1 : Triangle (Vec3 Float)} {t0 t1 : Triangle (Projected Float)} → TriOf m xyz f0 x0 t0 → TriOf m xyz f1 x1 t1
+      → contains allInside m xyz (some f1) q0 ≡ true → contains allInside m xyz (some f0) q1 ≡ true
+      → givenCrossing m axis d f0 f1 x0 x1 t0 t1 q0 q1 ≡ flatMap (additionsOf m xyz d) (between axis m xyz (some f0) (some f1) q0 q1)
+  unfolding received together crossingOf
+  adds-both o0 o1 p q =
+      crossing-adds o0 o1 axis q0 q1 d ∙ ap (flatMap (additionsOf m xyz d)) (rw (o0 .projections, o1 .projections) at (tested true true p q))
+
+  pub adds-first : {x0 : Triangle (Vec3 Float)} {t0 : Triangle (Projected Float)} → TriOf m xyz f0 x0 t0
+      → contains allInside m xyz (some f1) q0 ≡ true → contains allInside m xyz (some f0) q1 ≡ false
+      → given m f0 x0 t0 q0 (along axis d) ≡ flatMap (additionsOf m xyz d) (between axis m xyz (some f0) (some f1) q0 q1)
+  unfolding received
+  adds-first o0 p q = one-adds o0 d q0 axis ∙ ap (flatMap (additionsOf m xyz d)) (tested true false p q)
+
+  pub adds-second : {x1 : Triangle (Vec3 Float)} {t1 : Triangle (Projected Float)} → TriOf m xyz f1 x1 t1
+      → contains allInside m xyz (some f1) q0 ≡ false → contains allInside m xyz (some f0) q1 ≡ true
+      → given m f1 x1 t1 q1 (along axis d) ≡ flatMap (additionsOf m xyz d) (between axis m xyz (some f0) (some f1) q0 q1)
+  unfolding received
+  adds-second o1 p q = one-adds o1 d q1 axis ∙ ap (flatMap (additionsOf m xyz d)) (tested false true p q)
+
+  pub adds-neither : contains allInside m xyz (some f1) q0 ≡ false → contains allInside m xyz (some f0) q1 ≡ false
+      → [] ≡ flatMap (additionsOf m xyz d) (between axis m xyz (some f0) (some f1) q0 q1)
+  unfolding received flatMap
+  adds-neither p q = ap (flatMap (additionsOf m xyz d)) (tested false false p q)
 
 -- ---- a face beside an empty pixel
 

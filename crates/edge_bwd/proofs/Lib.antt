@@ -4,4 +4,5 @@ pub mod Cases
 pub mod Entries
 pub mod Reading
 pub mod Turns
+pub mod Pixels
 pub mod Calls

@@ -10,6 +10,7 @@ ghost use Rattle.edges.specs.Steps.{SoundMap};
 ghost use Rattle.edge_bwd.specs.Calls.{exactBwd, ofPairs, bwdCode, outcome, edgeBwd};
 
 mod pairs;
+mod quick;
 mod shares;
 
 // Question 4.
@@ -54,6 +55,9 @@ fn pairs_code(
     ensures { λ r. ⌜ r ≡ firstNo (ofPairs «img_h»
         (sight (viewOf (now («tri2vtx» .entry)) (now («pix2tri» .entry))) (now (m .entry)) (now («vtx2xyz» .entry)) «img_w»)) ⌝ }
 {
+    if quick::settled(tri2vtx, vtx2xyz, m, img_w, img_h, pix2tri) {
+        return 0;
+    }
     if !edges::pairs::all_answered(tri2vtx, vtx2xyz, m, img_w, img_h, pix2tri, 0, 1) {
         return 8;
     }

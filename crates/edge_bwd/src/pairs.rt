@@ -19,7 +19,7 @@ ghost use Rattle.edge_bwd.specs.Calls.{unwraps, allUnwraps};
 use super::shares;
 use geometry::Vec2;
 
-fn centre_of(x: usize, y: usize) -> Vec2
+pub fn centre_of(x: usize, y: usize) -> Vec2
     requires { ⌜ (x ≤ 4096) × (y ≤ 4096) ⌝ }
     ensures { λ r. ⌜ point2 r ≡ centreOf (pixel x y) ⌝ }
 {

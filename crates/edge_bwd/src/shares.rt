@@ -142,7 +142,7 @@ fn scatter_beside_empty(
     scatter(sums, tri2vtx, m, i, t, own, tris::crossing::along(axis, d));
 }
 
-// Two faces, by which of the two centres lies inside the other's face.
+// Two faces, by which of the two centres lies inside the other's face: mostly neither does, and no `Tri` is built.
 fn scatter_between(
     sums: &mut [f32],
     tri2vtx: &[u32],
@@ -162,19 +162,20 @@ fn scatter_between(
     ensures { λ r. ⌜ now (sums .exit) ≡ summed (now (sums .entry)) (flatMap (additionsOf (now (m .entry)) (now (vtx2xyz .entry)) d)
         (between axis (now (m .entry)) (now (vtx2xyz .entry)) (some (faceAt (now (tri2vtx .entry)) i0)) (some (faceAt (now (tri2vtx .entry)) i1)) (point2 q0) (point2 q1))) ⌝ }
 {
-    let t0 = tris::tri::tri_new(tri2vtx, vtx2xyz, m, i0);
-    let t1 = tris::tri::tri_new(tri2vtx, vtx2xyz, m, i1);
-    if tris::tri::is_inside(t1, q0) {
+    if tris::tri::inside(tri2vtx, vtx2xyz, m, i1, q0) {
+        let t0 = tris::tri::tri_new(tri2vtx, vtx2xyz, m, i0);
         if tris::tri::is_inside(t0, q1) {
+            let t1 = tris::tri::tri_new(tri2vtx, vtx2xyz, m, i1);
             scatter_intersection_gradient(sums, tri2vtx, m, i0, i1, t0, t1, q0, q1, axis, d);
             return;
         }
         scatter(sums, tri2vtx, m, i0, t0, q0, tris::crossing::along(axis, d));
         return;
     }
-    if !tris::tri::is_inside(t0, q1) {
+    if !tris::tri::inside(tri2vtx, vtx2xyz, m, i0, q1) {
         return;
     }
+    let t1 = tris::tri::tri_new(tri2vtx, vtx2xyz, m, i1);
     scatter(sums, tri2vtx, m, i1, t1, q1, tris::crossing::along(axis, d));
 }
 

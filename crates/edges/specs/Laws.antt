@@ -128,7 +128,7 @@ module _ {tri map : List ℕ} (m : List Float) {xyz : List Float} {w h : ℕ} (s
   corner-projects j l =
       all-at (λ v. present (project m (vertexAt xyz v))) (length xyz / 3) yes (getD tri j 0) (below-at (length xyz / 3) tri (s .mesh .named) j l)
 
-  entry-projects : (x : ℕ) → namesFace (length tri / 3) x ≡ true → projects m xyz (named tri x) ≡ true
+  pub entry-projects : (x : ℕ) → namesFace (length tri / 3) x ≡ true → projects m xyz (named tri x) ≡ true
   unfolding projects named projectFace faceAt
   entry-projects x e = go (eqb x empty) refl
     where

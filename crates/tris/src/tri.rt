@@ -8,7 +8,7 @@ ghost use Rattle.geometry.specs.Arith.{floats};
 ghost use Rattle.geometry.specs.Vector.{weights, triangle};
 ghost use Rattle.geometry.specs.Answer.{point2, point3, projectedOf, weightsOf};
 ghost use Rattle.meshes.specs.Mesh.{faceAt};
-ghost use Rattle.edges.specs.Inside.{weightsIn, present};
+ghost use Rattle.edges.specs.Inside.{weightsIn, contains, present};
 ghost use Rattle.edges.specs.Steps.{SoundMesh};
 ghost use Rattle.tris.specs.Weights as spec;
 ghost use Rattle.tris.specs.Crossing as cross;
@@ -73,6 +73,22 @@ pub fn is_inside(t: Tri, q: Vec2) -> bool
         return false;
     };
     edges::faces::all_from_zero(b0, b1, b2)
+}
+
+// The same of face number i, of which no more is asked: its `Tri` is not built.
+pub fn inside(tri2vtx: &[u32], vtx2xyz: &[f32], m: &[f32; 16], i: usize, q: Vec2) -> bool
+    requires { ⌜ SoundMesh (now tri2vtx) (now vtx2xyz) ⌝ }
+    requires { ⌜ Projects (now tri2vtx) (now m) (now vtx2xyz) i ⌝ }
+    ensures { λ r. ⌜ r ≡ contains spec.allInside (now (m .entry)) (now (vtx2xyz .entry)) (some (faceAt (now (tri2vtx .entry)) i)) (point2 q) ⌝ }
+{
+    let j = 3 * i;
+    let x0 = meshes::vertex(vtx2xyz, tri2vtx[j] as usize);
+    let x1 = meshes::vertex(vtx2xyz, tri2vtx[j + 1] as usize);
+    let x2 = meshes::vertex(vtx2xyz, tri2vtx[j + 2] as usize);
+    let p0 = slopes::untested(m, x0);
+    let p1 = slopes::untested(m, x1);
+    let p2 = slopes::untested(m, x2);
+    is_inside(tri_of(x0, x1, x2, p0, p1, p2), q)
 }
 
 // The weights, or none where one of them is not finite.

@@ -1,23 +1,24 @@
 use mathlib.Core.Path.{sym, _∙_}
 use Rattle.questions.specs.Laws.{said-no, said-yes}
 use Rattle.geometry.specs.Answer.{point2}
+use Rattle.meshes.specs.Mesh.{faceAt}
 use Rattle.meshes.specs.Sums.{summed}
-use Rattle.edge_bwd.proofs.Cases.{adds-both, adds-first, adds-second, adds-neither, sound-again}
+use Rattle.edge_bwd.proofs.Cases.{adds-both, adds-first, adds-second, adds-neither, inside-is, sound-again}
 use borrow.Author.Needs.{needs}
 use Rattle.edge_bwd.proofs.shares.scatter_between.Statement.{statement}
 use Rattle.edge_bwd.proofs.shares.scatter_between.Tie as tie
 
+inside-requires : tie.Need-inside-requires
+inside-requires c κs = search needs
+
 tri-new-requires : tie.Need-tri-new-requires
 tri-new-requires c κs = search needs
-
-tri-new-requires-2 : tie.Need-tri-new-requires-2
-tri-new-requires-2 c κs = search needs
 
 is-inside-requires : tie.Need-is-inside-requires
 is-inside-requires c κs = search needs
 
-is-inside-requires-2 : tie.Need-is-inside-requires-2
-is-inside-requires-2 c κs = search needs
+tri-new-requires-2 : tie.Need-tri-new-requires-2
+tri-new-requires-2 c κs = search needs
 
 scatter-intersection-gradient-requires : tie.Need-scatter-intersection-gradient-requires
 scatter-intersection-gradient-requires c κs = let s = c .before .before .before .before .before .before .before .before .before .before in (sound-again (s .pre .0) (s .pre .1 .1 .1), (s .pre .1 .0 .there, s .pre .1 .1 .0 .there))
@@ -28,19 +29,20 @@ same-length c = search needs
 returns : tie.Need-returns
 returns c =
     let k = c .before .before in
-    let b = k .before .before in
-    let a = b .before .before in
-    let n = a .before .before in
-    let s = n .before .before .before .before .before in
-    rw (← (adds-both (n .before .tri-new .ensures) (n .tri-new2 .ensures) (s .args .axis) (point2 (s .args .q0)) (point2 (s .args .q1)) (s .args .d)
-    (sym (a .before .is-inside .ensures) ∙ a .if1 .taken) (sym (b .before .is-inside2 .ensures) ∙ b .if2 .taken)))
+    let n = k .before .before in
+    let b = n .before in
+    let a = b .before .before .before in
+    let s = a .before .before .before .before .before in
+    rw (← (adds-both (s .args .m .now) (s .args .vtx2xyz .now) (faceAt (s .args .tri2vtx .now) (s .args .i0)) (faceAt (s .args .tri2vtx .now) (s .args .i1)) (s .args .axis) (point2 (s .args .q0)) (point2 (s .args .q1)) (s .args .d)
+    (b .before .before .tri-new .ensures) (n .tri-new2 .ensures)
+    (sym (a .before .inside .ensures) ∙ a .if1 .taken) (inside-is (b .before .before .tri-new .ensures) (point2 (s .args .q1)) ∙ sym (b .before .is-inside .ensures) ∙ b .if2 .taken)))
     (k .scatter-intersection-gradient .ensures)
 
 along-requires : tie.Need-along-requires
 along-requires c κs = search needs
 
 scatter-requires : tie.Need-scatter-requires
-scatter-requires c κs = let s = c .before .before .before .before .before .before .before .before .before .before .before in (sound-again (s .pre .0) (s .pre .1 .1 .1), s .pre .1 .0 .there)
+scatter-requires c κs = let s = c .before .before .before .before .before .before .before .before .before .before in (sound-again (s .pre .0) (s .pre .1 .1 .1), s .pre .1 .0 .there)
 
 same-length-2 : tie.Need-same-length-2
 same-length-2 c = search needs
@@ -49,33 +51,35 @@ returns-2 : tie.Need-returns-2
 returns-2 c =
     let k = c .before .before in
     let b = k .before .before .before in
-    let a = b .before .before in
-    let n = a .before .before in
-    let s = n .before .before .before .before .before in
+    let a = b .before .before .before in
+    let s = a .before .before .before .before .before in
     rw (
-      ← (adds-first (n .before .tri-new .ensures) (n .tri-new2 .ensures) (s .args .axis) (point2 (s .args .q0)) (point2 (s .args .q1)) (s .args .d)
-          (sym (a .before .is-inside .ensures) ∙ a .if1 .taken) (sym (b .before .is-inside2 .ensures) ∙ b .if2 .left)),
+      ← (adds-first (s .args .m .now) (s .args .vtx2xyz .now) (faceAt (s .args .tri2vtx .now) (s .args .i0)) (faceAt (s .args .tri2vtx .now) (s .args .i1)) (s .args .axis) (point2 (s .args .q0)) (point2 (s .args .q1)) (s .args .d)
+          (b .before .before .tri-new .ensures)
+          (sym (a .before .inside .ensures) ∙ a .if1 .taken) (inside-is (b .before .before .tri-new .ensures) (point2 (s .args .q1)) ∙ sym (b .before .is-inside .ensures) ∙ b .if2 .left)),
       ← (k .before .along .ensures),
     )
     (k .scatter .ensures)
 
-is-inside-requires-3 : tie.Need-is-inside-requires-3
-is-inside-requires-3 c κs = search needs
+inside-requires-2 : tie.Need-inside-requires-2
+inside-requires-2 c κs = search needs
 
 returns-3 : tie.Need-returns-3
 unfolding summed
 returns-3 c =
     let a = c .before .before in
-    let n = a .before .before in
-    let s = n .before .before .before .before .before in
-    rw (← (adds-neither (n .before .tri-new .ensures) (n .tri-new2 .ensures) (s .args .axis) (point2 (s .args .q0)) (point2 (s .args .q1)) (s .args .d)
-    (sym (a .before .is-inside .ensures) ∙ a .if1 .left) (said-no (c .before .is-inside3 .ensures) (c .if3 .taken))))
+    let s = a .before .before .before .before .before in
+    rw (← (adds-neither (s .args .m .now) (s .args .vtx2xyz .now) (faceAt (s .args .tri2vtx .now) (s .args .i0)) (faceAt (s .args .tri2vtx .now) (s .args .i1)) (s .args .axis) (point2 (s .args .q0)) (point2 (s .args .q1)) (s .args .d)
+    (sym (a .before .inside .ensures) ∙ a .if1 .left) (said-no (c .before .inside2 .ensures) (c .if3 .taken))))
+
+tri-new-requires-3 : tie.Need-tri-new-requires-3
+tri-new-requires-3 c κs = search needs
 
 along-requires-2 : tie.Need-along-requires-2
 along-requires-2 c κs = search needs
 
 scatter-requires-2 : tie.Need-scatter-requires-2
-scatter-requires-2 c κs = let s = c .before .before .before .before .before .before .before .before .before .before .before in (sound-again (s .pre .0) (s .pre .1 .1 .1), s .pre .1 .1 .0 .there)
+scatter-requires-2 c κs = let s = c .before .before .before .before .before .before .before .before .before .before in (sound-again (s .pre .0) (s .pre .1 .1 .1), s .pre .1 .1 .0 .there)
 
 same-length-3 : tie.Need-same-length-3
 same-length-3 c = search needs
@@ -83,13 +87,14 @@ same-length-3 c = search needs
 returns-4 : tie.Need-returns-4
 returns-4 c =
     let k = c .before .before in
-    let b = k .before .before .before in
+    let n = k .before .before .before in
+    let b = n .before in
     let a = b .before .before in
-    let n = a .before .before in
-    let s = n .before .before .before .before .before in
+    let s = a .before .before .before .before .before in
     rw (
-      ← (adds-second (n .before .tri-new .ensures) (n .tri-new2 .ensures) (s .args .axis) (point2 (s .args .q0)) (point2 (s .args .q1)) (s .args .d)
-          (sym (a .before .is-inside .ensures) ∙ a .if1 .left) (said-yes (b .before .is-inside3 .ensures) (b .if3 .left))),
+      ← (adds-second (s .args .m .now) (s .args .vtx2xyz .now) (faceAt (s .args .tri2vtx .now) (s .args .i0)) (faceAt (s .args .tri2vtx .now) (s .args .i1)) (s .args .axis) (point2 (s .args .q0)) (point2 (s .args .q1)) (s .args .d)
+          (n .tri-new3 .ensures)
+          (sym (a .before .inside .ensures) ∙ a .if1 .left) (said-yes (b .before .inside2 .ensures) (b .if3 .left))),
       ← (k .before .along2 .ensures),
     )
     (k .scatter2 .ensures)
@@ -98,10 +103,10 @@ pub scatter-between-spec : {M : Type 1} → statement M
 scatter-between-spec =
     tie.close
     (tie.spec
+    inside-requires
     tri-new-requires
-    tri-new-requires-2
     is-inside-requires
-    is-inside-requires-2
+    tri-new-requires-2
     scatter-intersection-gradient-requires
     same-length
     returns
@@ -109,8 +114,9 @@ scatter-between-spec =
     scatter-requires
     same-length-2
     returns-2
-    is-inside-requires-3
+    inside-requires-2
     returns-3
+    tri-new-requires-3
     along-requires-2
     scatter-requires-2
     same-length-3
