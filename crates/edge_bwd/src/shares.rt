@@ -142,7 +142,7 @@ fn scatter_beside_empty(
     scatter(sums, tri2vtx, m, i, t, own, tris::crossing::along(axis, d));
 }
 
-// Two faces, by which of the two centres lies inside the other's face: mostly neither does, and no `Tri` is built.
+// Two faces, by which of the two centres lies inside the other's face: mostly neither does, and no more is worked out.
 fn scatter_between(
     sums: &mut [f32],
     tri2vtx: &[u32],

@@ -75,7 +75,7 @@ pub fn is_inside(t: Tri, q: Vec2) -> bool
     edges::faces::all_from_zero(b0, b1, b2)
 }
 
-// The same of face number i, of which no more is asked: its `Tri` is not built.
+// The same of face number i: no more of its `Tri` is used, and so the compiler works out no more of it.
 pub fn inside(tri2vtx: &[u32], vtx2xyz: &[f32], m: &[f32; 16], i: usize, q: Vec2) -> bool
     requires { ⌜ SoundMesh (now tri2vtx) (now vtx2xyz) ⌝ }
     requires { ⌜ Projects (now tri2vtx) (now m) (now vtx2xyz) i ⌝ }
