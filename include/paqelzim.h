@@ -10,7 +10,8 @@
  *
  * A call that can refuse answers a code: 0 where it is accepted, else the number of the first of its questions, in
  * rising order, that is answered no, and then nothing has been written. An accepted call writes the places that its
- * comment names; every other place keeps its bits.
+ * comment names; every other place keeps its bits. Nothing is stored there, but by two calls whose comments say so, which
+ * store what it held again. That a NaN keeps its payload is tested and not proved: to the proofs there is one NaN.
  *   1  are width and height from 1 to 4,096?
  *   2  are channels per pixel from 1 to 16?
  *   3  are vertex and face slices multiples of 3, for at most 1,048,576 vertices and as many faces?
@@ -47,7 +48,8 @@ uint32_t paqelzim_clear(uint32_t *pix2tri, size_t pix2tri_len,
 /* Draws the faces of tri2vtx (three vertex numbers each) on a layer, in list order, numbered from first on. Vertices
  * are three numbers each in vtx2xyz; transform_world2ndc has sixteen, column by column. A depth is written, with the
  * face's number, where it is greater than the stored one: an equal depth or a NaN never is, and a stored NaN stays.
- * Writes: pix2tri and pix2depth, at the pixels to which a face brings a greater depth.
+ * Writes: pix2tri and pix2depth, at the pixels to which a face brings a greater depth. Most pixels are stored four at a
+ * time, the others of the four again, with what they held.
  * Questions: 1; 3; 4: pix2tri and pix2depth have img_w * img_h elements; 5; 6. */
 uint32_t paqelzim_pix2tri_by_rasterization(uint32_t *pix2tri, size_t pix2tri_len,
                                            float *pix2depth, size_t pix2depth_len,
@@ -58,7 +60,7 @@ uint32_t paqelzim_pix2tri_by_rasterization(uint32_t *pix2tri, size_t pix2tri_len
 
 /* Joins two layers: where the right layer's depth is greater, that depth and its number go into the left. A NaN is
  * never greater, and nothing is greater than a NaN.
- * Writes: the left layer, where the right depth is greater.
+ * Writes: the left layer, where the right depth is greater. Its other pixels are stored again, with what they held.
  * Questions: 1; 4: all four slices have img_w * img_h elements. */
 uint32_t paqelzim_join(uint32_t *left_pix2tri, size_t left_pix2tri_len,
                        float *left_pix2depth, size_t left_pix2depth_len,

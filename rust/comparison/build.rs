@@ -1,14 +1,38 @@
 //! Finds the listed Rust, in the folder that `DEL_MSH_SRC` names or in `../shared/docs/src` beside the
 //! repository, and has it compiled unchanged from there. Where it is not found, the comparison is left out.
-//! Of edgegrad.rs a second module has one line changed, which 01 decides otherwise (docs/DIFFERENCES.md).
+//! Of edgegrad.rs a second module has the lines changed that 01 decides otherwise (docs/DIFFERENCES.md).
 use std::path::{Path, PathBuf};
 
-/// The line of `scatter_intersection_gradient` that takes the second point from the first triangle.
-const LISTED: &str = "let xyz1 = tri0.world_pos_from_barycentric_coord(&b1);";
-const CHANGED: &str = "let xyz1 = tri1.world_pos_from_barycentric_coord(&b1);";
+/// What 01 decides otherwise in `scatter_intersection_gradient`, as listed and as changed; each stands there once.
+const CHANGES: [[&str; 2]; 3] = [
+    // the second point, which is listed with the first triangle's corners
+    [
+        "let xyz1 = tri0.world_pos_from_barycentric_coord(&b1);",
+        "let xyz1 = tri1.world_pos_from_barycentric_coord(&b1);",
+    ],
+    // hypot, which is listed as the C library's
+    [
+        "n0[axis].hypot(n0[2])",
+        "del_geo_core::float_tools::hypot(n0[axis], n0[2])",
+    ],
+    [
+        "n1[axis].hypot(n1[2])",
+        "del_geo_core::float_tools::hypot(n1[axis], n1[2])",
+    ],
+];
 
 fn module(name: &str, file: &Path) -> String {
     format!("#[allow(warnings, clippy::all)]\n#[path = {file:?}]\npub mod {name};\n")
+}
+
+/// The file with each change made once, and no call of the C library's hypot left.
+fn changed(mut file: String) -> String {
+    for [listed, changed] in CHANGES {
+        assert_eq!(file.matches(listed).count(), 1, "{listed}: once");
+        file = file.replace(listed, changed);
+    }
+    assert!(!file.contains(".hypot("), "another hypot is listed");
+    file
 }
 
 fn main() {
@@ -30,17 +54,12 @@ fn main() {
     let edgegrad = folder.join("edgegrad.rs");
     let listed =
         std::fs::read_to_string(&edgegrad).expect("edgegrad.rs is listed beside pix2tri.rs");
-    assert_eq!(
-        listed.matches(LISTED).count(),
-        1,
-        "the line to change is not there once"
-    );
-    let changed = out.join("edgegrad_own_points.rs");
-    std::fs::write(&changed, listed.replace(LISTED, CHANGED)).expect("the changed file is written");
+    let by_the_rules = out.join("edgegrad_by_the_rules.rs");
+    std::fs::write(&by_the_rules, changed(listed)).expect("the changed file is written");
     let modules = [
         module("pix2tri", &folder.join("pix2tri.rs")),
         module("edgegrad", &edgegrad),
-        module("edgegrad_own_points", &changed),
+        module("edgegrad_by_the_rules", &by_the_rules),
     ];
     std::fs::write(out.join("listed.rs"), modules.concat()).expect("the modules are written");
 }

@@ -26,7 +26,8 @@ mod ffi {
 /// clipped at the near plane. The depth is written, with the face's number, where it is greater than the stored one:
 /// an equal depth or a NaN never is, and a stored NaN stays.
 ///
-/// Writes: both slices, at the pixels to which a face brings a greater depth.
+/// Writes: both slices, at the pixels to which a face brings a greater depth. Most pixels are stored four at a time, the
+/// others of the four again, with what they held.
 ///
 /// Questions: [1](Refusal::ImageSize), [3](Refusal::MeshSize), [4](Refusal::BufferLength): `pix2tri` and `pix2depth`
 /// have `img_w * img_h` elements, [5](Refusal::FaceNumbers), [6](Refusal::VertexNumber).

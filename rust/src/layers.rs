@@ -67,7 +67,7 @@ pub fn clear(
 /// A NaN is never greater, and nothing is greater than a NaN. Layers of neighbouring runs of a mesh, each cleared and
 /// drawn with its run's first number, joined in any bracketing, are the layer of the mesh drawn whole.
 ///
-/// Writes: the left layer, where the right depth is greater.
+/// Writes: the left layer, where the right depth is greater. Its other pixels are stored again, with what they held.
 ///
 /// Questions: [1](Refusal::ImageSize), [4](Refusal::BufferLength): all four slices have `img_w * img_h` elements.
 ///

@@ -13,7 +13,9 @@
 //!
 //! A call that can refuse asks its questions in rising number before it writes anything. The first that is answered
 //! no is the [`Refusal`], and then every slice is as it was. Each call's page names its questions and the places
-//! that an accepted call writes; every other place keeps its bits.
+//! that an accepted call writes; every other place keeps its bits. Nothing is stored there, but by [`join`] and
+//! [`pix2tri_by_rasterization`], which store what it held again. That a NaN keeps its payload is tested and not proved:
+//! to the proofs there is one NaN.
 //!
 //! ```
 //! // One face over the whole of a picture of 2 x 2 pixels, drawn and given values.

@@ -198,6 +198,14 @@ fn hypotenuses() {
     });
 }
 
+/// The nearest value to the root of the two squares is 3fa8521b (docs/DIFFERENCES.md): the rule's root in f64 falls on the
+/// middle between the two.
+#[test]
+fn hypot_is_the_rule_s_and_not_the_nearest() {
+    let [a, b] = [0x3fa5_cb59, 0x3e68_6d89].map(f32::from_bits);
+    assert_eq!(hypot_f32(a, b).to_bits(), 0x3fa8_521a);
+}
+
 #[test]
 fn every_class_of_nan() {
     // quiet and signalling, both signs, each payload digit alone, all of them, none but the lowest

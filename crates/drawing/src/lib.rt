@@ -1,20 +1,9 @@
 // Drawing: the public call `pix2tri_by_rasterization`.
 
 ghost use mathlib.Core.Path.{_≡_};
-ghost use mathlib.Core.Bool.{_&&_};
-ghost use Rattle.questions.specs.Questions.{groups};
-ghost use Rattle.layers.specs.Layer.{layer, outcome};
+ghost use Rattle.questions.specs.Questions.{outcome};
+ghost use Rattle.layers.specs.Layer.{layer};
 ghost use Rattle.rules.specs.Calls.{drawCode, draws};
-
-// Question 3: whole vertices and whole faces, not too many of either.
-fn slices_ok(vertices: usize, faces: usize) -> bool
-    ensures { λ r. ⌜ r ≡ groups 3 vertices && groups 3 faces ⌝ }
-{
-    if !questions::groups_ok(3, vertices) {
-        return false;
-    }
-    questions::groups_ok(3, faces)
-}
 
 // Questions 1, 3, 4, 5 and 6.
 fn draw_code(
@@ -31,7 +20,7 @@ fn draw_code(
     if !questions::sizes_ok(1, img_w, img_h) {
         return 1;
     }
-    if !slices_ok(vtx2xyz.len(), tri2vtx.len()) {
+    if !questions::slices_ok(tri2vtx.len(), vtx2xyz.len()) {
         return 3;
     }
     if !layers::layer_ok(pix2tri, pix2depth, img_w, img_h) {
@@ -57,7 +46,7 @@ pub fn pix2tri_by_rasterization(
     transform_world2ndc: &[f32; 16],
     first: u32,
 ) -> u32
-    ensures { λ r. ⌜ outcome r (now (pix2tri .exit)) (now (pix2depth .exit))
+    ensures { λ r. ⌜ outcome r (layer (now (pix2tri .exit)) (now (pix2depth .exit)))
         ≡ draws (layer (now (pix2tri .entry)) (now (pix2depth .entry))) (now (tri2vtx .entry)) (now (vtx2xyz .entry)) «img_w» «img_h» (now («transform_world2ndc» .entry)) first ⌝ }
 {
     let code = draw_code(pix2tri, pix2depth, tri2vtx, vtx2xyz, img_w, img_h, first);

@@ -7,13 +7,15 @@ use borrow.Author.Tests.{eq-eqb}
 use lib.Ieee.{Float}
 use lib.ListN.{length}
 use Rattle.questions.specs.Questions.{sizes, channels, groups, exact, allBelow, namesFaces}
-use Rattle.questions.specs.Laws.{sized, channelled, grouped, whole, both, accepted, exactly, untouched}
+use Rattle.lists.specs.Laws.Tests.{both}
+use Rattle.questions.specs.Laws.{sized, channelled, grouped, whole, accepted, exactly, untouched}
 use Rattle.meshes.specs.Sums.{summed}
 use Rattle.pixels.specs.Edge.{hedge, vedge}
 use Rattle.edges.specs.Types.{Sight}
 use Rattle.edges.specs.Gradient.{Signal}
 use Rattle.edges.specs.Calls.{allAnswered}
-use Rattle.edges.specs.Steps.{SoundMap, SoundSignal}
+use Rattle.meshes.specs.Sound.{SoundMap}
+use Rattle.edges.specs.Steps.{SoundSignal}
 use Rattle.edge_bwd.specs.Additions.{axisAdditions, passAdditions}
 use Rattle.edge_bwd.specs.Calls.{exactBwd, bwdCode, outcome, answer, edgeBwd}
 use Rattle.edge_bwd.proofs.Sums.{then}

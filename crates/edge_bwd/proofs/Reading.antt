@@ -6,14 +6,14 @@ use mathlib.Core.List.{List, []}
 use lib.Ieee.{Float}
 use lib.ListN.{getD}
 use borrow.Author.Tests.{eq-eqb, ne-eqb}
-use Rattle.questions.specs.Laws.{both}
+use Rattle.lists.specs.Laws.Tests.{both}
 use Rattle.meshes.specs.View.{named, viewOf}
 use Rattle.pixels.specs.Pixel.{pixel, centreOf}
 use Rattle.pixels.specs.Edge.{Axis, edgeFrom}
-use Rattle.edges.specs.Inside.{projects}
+use Rattle.inside.specs.Inside.{projects}
 use Rattle.edges.specs.Types.{sight, answered}
-use Rattle.edges.specs.Steps.{SoundMap}
-use Rattle.edges.specs.Laws.{entry-named, entry-shown}
+use Rattle.meshes.specs.Sound.{SoundMap}
+use Rattle.meshes.specs.Laws.{entry-named, entry-shown}
 use Rattle.edge_bwd.specs.Shares.{between, sharesAt}
 use Rattle.edge_bwd.specs.Steps.{Shows}
 

@@ -2,21 +2,21 @@
 use Prim.Native.Nat.{ℕ, _+_, _-_, _*_, _<_, _≤_}
 use mathlib.Core.Path.{_≡_, refl, sym, _∙_, ap, ap₂}
 use mathlib.Core.Bool.{true}
-use mathlib.Core.List.{List}
+use mathlib.Core.List.{List, flatMap}
 use native.Mathlib.Nat.{mul-comm}
-use native.Mathlib.Numerals.{add-one}
 use native.Mathlib.Omega.{arith}
 use lib.Ieee.{Float}
 use lib.ListN.{length}
+use Rattle.lists.specs.Lists.{span}
 use Rattle.meshes.specs.Sums.{Addition, summed}
+use Rattle.meshes.specs.Laws.{turns-none, turns-more, turns-ended}
 use Rattle.pixels.specs.Edge.{axis, Edge, edgeAt, edgeFrom, rows}
 use Rattle.pixels.specs.Laws.{Walked, walked-none, walked-more, Follows, walked-edge, in-row, in-column, number-below}
 use Rattle.edges.specs.Types.{Sight, answered}
 use Rattle.edges.specs.Calls.{allAnswered}
 use Rattle.edges.specs.Steps.{Within}
-use Rattle.edges.specs.Laws.{all-at}
-use Rattle.edge_bwd.specs.Additions.{inTurn, edgeDown}
-use Rattle.edge_bwd.proofs.Sums.{then}
+use Rattle.lists.specs.Laws.Every.{in-span}
+use Rattle.edge_bwd.specs.Additions.{edgeDown}
 
 -- question 8 of an axis, at one of its pairs
 pub answered-at : (s : Sight) (h right down : ℕ) {x y : ℕ} → Within (s .width) h right down x y → allAnswered (axis right down) h s ≡ true
@@ -28,7 +28,7 @@ answered-at s h right down {x} {y} k e =
     let l : y * (s .width - right) + x < (h - down) * (s .width - right) = omega (arith, number-below c r, mul-comm (h - down) (s .width - right)) in
     let walk : Walked (s .width - right) (y * (s .width - right) + x) x y = record { number = refl; column = λ p. c } in
     sym (ap (answered s) (walked-edge (axis right down) (s .width) h walk l))
-    ∙ all-at (λ i. answered s (edgeAt (axis right down) (s .width) i)) ((h - down) * (s .width - right)) e (y * (s .width - right) + x) l
+    ∙ in-span (λ i. answered s (edgeAt (axis right down) (s .width) i)) ((h - down) * (s .width - right)) e (y * (s .width - right) + x) l
 
 -- ---- a walk by columns is a walk by rows of the picture on its side
 
@@ -49,21 +49,16 @@ pub record Summing (f : ℕ → List Addition) (old : List Float) (n rows i x y 
   pub within : i ≤ n
   pub walked : Walked rows i y x
   pub kept : length new ≡ length old
-  pub sums : new ≡ summed old (inTurn f i)
+  pub sums : new ≡ summed old (flatMap f (span 0 i))
 
 module _ (f : ℕ → List Addition) (old : List Float) (n rows : ℕ) where
   pub summing-none : Summing f old n rows 0 0 0 old
-  unfolding inTurn summed
-  summing-none = record { within = omega arith; walked = walked-none rows; kept = refl; sums = refl }
-
-  in-turn-more : (i : ℕ) {new new' : List Float} → new ≡ summed old (inTurn f i) → new' ≡ summed new (f i) → new' ≡ summed old (inTurn f (i + 1))
-  unfolding inTurn
-  in-turn-more i p q = rw add-one (then old (inTurn f i) (f i) p q)
+  summing-none = record { within = omega arith; walked = walked-none rows; kept = refl; sums = turns-none f old 0 }
 
   pub summing-more : {i x y x' y' : ℕ} {new new' : List Float} → Summing f old n rows i x y new → i < n → new' ≡ summed new (f i) → length new' ≡ length new
       → Follows rows y x y' x' → Summing f old n rows (i + 1) x' y' new'
   summing-more {i} s l e k follows =
-      record { within = omega arith; walked = walked-more (s .walked) follows; kept = k ∙ s .kept; sums = in-turn-more i (s .sums) e }
+      record { within = omega arith; walked = walked-more (s .walked) follows; kept = k ∙ s .kept; sums = turns-more f old i (s .sums) e }
 
-  pub summing-all : {i x y : ℕ} {new : List Float} → Summing f old n rows i x y new → n ≤ i → new ≡ summed old (inTurn f n)
-  summing-all {i} s l = let e : i ≡ n = omega (arith, s .within) in s .sums ∙ ap (λ (k : ℕ). summed old (inTurn f k)) e
+  pub summing-all : {i x y : ℕ} {new : List Float} → Summing f old n rows i x y new → n ≤ i → new ≡ summed old (flatMap f (span 0 n))
+  summing-all {i} s l = turns-ended f old i n (s .within) l (s .sums)

@@ -1,16 +1,17 @@
 -- The whole outcome of `bwd`.
 use Prim.Native.Nat.{ℕ, _*_, _/_}
 use mathlib.Core.Bool.{Bool, true, _&&_}
-use mathlib.Core.List.{List, [], _∷_}
+use mathlib.Core.List.{List, [], _∷_, _++_}
 use lib.ListN.{length}
 use lib.Ieee.{Float}
-use Rattle.questions.specs.Questions.{Question, ask, firstNo, unlessRefused, sizes, channels, groups, exact, allBelow, namesFaces}
+use Rattle.questions.specs.Questions.{Question, ask, firstNo, Outcome, answer, opening, exact, allBelow, namesFaces}
 use Rattle.meshes.specs.Sums.{summed}
 use Rattle.pixels.specs.Edge.{Axis, hedge, vedge, Edge, edgeCount, edgeAt}
-use Rattle.edges.specs.Inside.{projectFace, present}
+use Rattle.inside.specs.Inside.{projectFace, present}
 use Rattle.edges.specs.Types.{Sight}
 use Rattle.edges.specs.Gradient.{Signal}
-use Rattle.edges.specs.Calls.{all, bothAnswered}
+use Rattle.lists.specs.Lists.{span, every}
+use Rattle.edges.specs.Calls.{bothAnswered}
 use Rattle.tris.specs.Weights.{worldIn}
 use Rattle.edge_bwd.specs.Shares.{Share, sharesAt}
 use Rattle.edge_bwd.specs.Additions.{passAdditions}
@@ -30,7 +31,7 @@ unwraps a s e = weighableAll (s .matrix) (s .vertices) (sharesAt a s e)
 
 -- 9, of every edge of an axis
 unfoldable pub allUnwraps : Axis → ℕ → Sight → Bool
-allUnwraps a h s = all (λ i. unwraps a s (edgeAt a (s .width) i)) (edgeCount a (s .width) h)
+allUnwraps a h s = every (λ i. unwraps a s (edgeAt a (s .width) i)) (span 0 (edgeCount a (s .width) h))
 
 -- 4: the map, values and gradients, and as many coordinates in the accumulator as in the vertices
 unfoldable pub exactBwd : ℕ → ℕ → List ℕ → Signal → List Float → List Float → Bool
@@ -46,25 +47,13 @@ ofPairs h s = ask 8 (bothAnswered h s) ∷ ask 9 (allUnwraps hedge h s && allUnw
 -- the questions, of the face list `tri2vtx`, the map `pix2tri`, what the pass sees, and the accumulator
 unfoldable pub bwdCode : List ℕ → List ℕ → ℕ → Sight → Signal → List Float → ℕ
 bwdCode tri map h s v dxyz =
-    firstNo (ask 1 (sizes 1 (s .width) h)
-    ∷ ask 2 (channels (v .channels))
-    ∷ ask 3 (groups 3 (length tri) && groups 3 (length (s .vertices)))
-    ∷ ask 4 (exactBwd (s .width) h map v (s .vertices) dxyz)
+    firstNo
+    (opening (s .width) h (v .channels) (length tri) (length (s .vertices))
+    ++ ask 4 (exactBwd (s .width) h map v (s .vertices) dxyz)
     ∷ ask 6 (allBelow (length (s .vertices) / 3) tri)
     ∷ ask 7 (namesFaces (length tri / 3) map)
     ∷ ofPairs h s)
 
 -- the code, and `dldw_vtx2xyz` afterwards
-pub record Outcome : Type 0 where
-  pub code : ℕ
-  pub sums : List Float
-
-abbrev pub outcome : ℕ → List Float → Outcome
-outcome code dxyz = record { code = code; sums = dxyz }
-
--- a refused call leaves it as it was
-unfoldable pub answer : ℕ → List Float → List Float → Outcome
-answer code before after = outcome code (unlessRefused code before after)
-
-unfoldable pub edgeBwd : List ℕ → List ℕ → ℕ → Sight → Signal → List Float → Outcome
+unfoldable pub edgeBwd : List ℕ → List ℕ → ℕ → Sight → Signal → List Float → Outcome (List Float)
 edgeBwd tri map h s v dxyz = answer (bwdCode tri map h s v dxyz) dxyz (summed dxyz (passAdditions h s v))

@@ -15,7 +15,7 @@ use Rattle.meshes.specs.View.{named, entryAt}
 use Rattle.meshes.specs.Sums.{Addition}
 use Rattle.pixels.specs.Pixel.{pixel, numberIn, centreOf}
 use Rattle.pixels.specs.Edge.{Edge, axis, hedge, vedge, edgeFrom}
-use Rattle.edges.specs.Inside.{projectFace, projects, present}
+use Rattle.inside.specs.Inside.{projectFace, projects, present}
 use Rattle.edges.specs.Types.{Sight, firstOf, secondOf}
 use Rattle.edges.specs.Calls.{allAnswered}
 use Rattle.tris.specs.Weights.{worldIn}

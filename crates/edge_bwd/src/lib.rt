@@ -6,7 +6,7 @@ ghost use Rattle.questions.specs.Laws.{Sized, Channels};
 ghost use Rattle.meshes.specs.View.{viewOf};
 ghost use Rattle.edges.specs.Types.{sight};
 ghost use Rattle.edges.specs.Gradient.{signal};
-ghost use Rattle.edges.specs.Steps.{SoundMap};
+ghost use Rattle.meshes.specs.Sound.{SoundMap};
 ghost use Rattle.edge_bwd.specs.Calls.{exactBwd, ofPairs, bwdCode, outcome, edgeBwd};
 
 mod pairs;

@@ -1,8 +1,4 @@
--- 01, "Edges": the type and the gradient of each pair of neighbouring pixels.
-pub mod Inside
-pub mod Answer
-pub mod Types
-pub mod Gradient
+-- 01, "Edges": the call `edge_gradient_and_type`.
 pub mod Calls
 pub mod Steps
 -- proved of the definitions above

@@ -14,7 +14,7 @@ use Rattle.geometry.specs.Arith.{floats}
 use Rattle.geometry.specs.Vector.{Vec3, Weights, Triangle}
 use Rattle.geometry.specs.Formula.{shares, blend}
 use Rattle.geometry.specs.Leaf.{finite, weighed}
-use Rattle.layers.specs.Cell.{lowest}
+use Rattle.offers.specs.Offer.{lowest}
 use Rattle.rules.specs.Scan.{weighedDepth, kept, dropped}
 use Rattle.lanes.specs.Answer.{orLowest}
 

@@ -1,3 +1,2 @@
--- What the contracts of one pixel, and of four, cite beside the rules.
+-- What the contracts of one pixel's depth cite beside the rules.
 pub mod Answer
-pub mod Step

@@ -1,17 +1,90 @@
-// One pixel: the depth of a piece there, and what it leaves in a layer; and four pixels side by side. These functions are lent to the scan of a piece.
+// One pixel: the depth that a piece on the screen has there, or −infinity. It is worked out in two ways: `depth_at` leaves off where there is none, and `lane`
+// goes straight on, so that the compiler works out several pixels side by side.
 
-pub mod block;
-pub mod lane;
+use boxes::Screen;
+use geometry::CornerWeights;
+use geometry::Vec2;
+ghost use mathlib.Core.Path.{_≡_};
+ghost use mathlib.Core.Bool.{cond};
+ghost use lib.Ieee.{lt, le};
+ghost use Rattle.geometry.specs.Vector.{vec2, weights};
+ghost use Rattle.offers.specs.Offer.{lowest};
+ghost use Rattle.rules.specs.Scan as rule;
+ghost use Rattle.boxes.specs.Answer.{screenOf};
+ghost use Rattle.lanes.specs.Answer.{orLowest};
 
-// A piece on the screen: pixel coordinates and depths of its corners.
-pub struct Screen {
-    pub x0: f32,
-    pub y0: f32,
-    pub z0: f32,
-    pub x1: f32,
-    pub y1: f32,
-    pub z1: f32,
-    pub x2: f32,
-    pub y2: f32,
-    pub z2: f32,
+// A weight below −1e-5 drops the pixel. A NaN passes, and the depth it makes is never greater than another.
+fn below(b: f32) -> bool
+    ensures { λ r. ⌜ r ≡ lt b rule.dropBelow ⌝ }
+{
+    b < -1e-5
+}
+
+fn dropped(b0: f32, b1: f32, b2: f32) -> bool
+    ensures { λ r. ⌜ r ≡ rule.dropped (weights b0 b1 b2) ⌝ }
+{
+    if below(b0) {
+        return true;
+    }
+    if below(b1) {
+        return true;
+    }
+    below(b2)
+}
+
+pub fn depth_at(s: Screen, qx: f32, qy: f32) -> f32
+    ensures { λ r. ⌜ r ≡ orLowest (rule.depthAt (screenOf s) (vec2 qx qy)) ⌝ }
+{
+    let q = Vec2 { x: qx, y: qy };
+    let p0 = Vec2 { x: s.x0, y: s.y0 };
+    let p1 = Vec2 { x: s.x1, y: s.y1 };
+    let p2 = Vec2 { x: s.x2, y: s.y2 };
+    let CornerWeights::Three(b0, b1, b2) = geometry::corner_weights(q, p0, p1, p2) else {
+        return f32::from_bits(0xff80_0000);
+    };
+    if dropped(b0, b1, b2) {
+        return f32::from_bits(0xff80_0000);
+    }
+    geometry::blend(b0, b1, b2, s.z0, s.z1, s.z2)
+}
+
+// −infinity in the place of z where there is none.
+fn unless(none: bool, z: f32) -> f32
+    ensures { λ r. ⌜ r ≡ cond none lowest z ⌝ }
+{
+    if none {
+        return f32::from_bits(0xff80_0000);
+    }
+    z
+}
+
+// The same depth, or −infinity. What the divisions give where there are no weights counts for nothing.
+pub fn lane(s: Screen, qx: f32, qy: f32) -> f32
+    ensures { λ r. ⌜ r ≡ orLowest (rule.depthAt (screenOf s) (vec2 qx qy)) ⌝ }
+{
+    let q = Vec2 { x: qx, y: qy };
+    let p0 = Vec2 { x: s.x0, y: s.y0 };
+    let p1 = Vec2 { x: s.x1, y: s.y1 };
+    let p2 = Vec2 { x: s.x2, y: s.y2 };
+    let a0 = geometry::cross2(q, p1, p2);
+    let a1 = geometry::cross2(q, p2, p0);
+    let a2 = geometry::cross2(q, p0, p1);
+    let t = a0 + a1 + a2;
+    let b0 = a0 / t;
+    let b1 = a1 / t;
+    let b2 = a2 / t;
+    let z = geometry::blend(b0, b1, b2, s.z0, s.z1, s.z2);
+    let kept = unless(dropped(b0, b1, b2), z);
+    let weighed = unless(t == 0.0, kept);
+    unless(!(t - t == 0.0), weighed)
+}
+
+// z where q is not past the end, which is the centre of the last column or row.
+pub fn up_to(end: f32, q: f32, z: f32) -> f32
+    ensures { λ r. ⌜ r ≡ cond (le q end) z lowest ⌝ }
+{
+    if q <= end {
+        return z;
+    }
+    f32::from_bits(0xff80_0000)
 }

@@ -1,9 +1,9 @@
--- A layer as a call is lent it, and what a call that writes one leaves.
-use Prim.Native.Nat.{ℕ, zero, suc}
-use mathlib.Core.List.{List, [], _∷_}
+-- A layer as a call is lent it.
+use Prim.Native.Nat.{ℕ}
+use mathlib.Core.List.{List}
 use lib.Ieee.{Float, nan}
 use lib.ListN.{getD}
-use Rattle.questions.specs.Questions.{unlessRefused}
+use Rattle.lists.specs.Lists.{tabulate}
 use Rattle.layers.specs.Cell.{Cell, cell}
 
 -- the map `pix2tri` and the depths `pix2depth`, a number each for every pixel
@@ -18,23 +18,6 @@ layer ns ds = record { pix2tri = ns; pix2depth = ds }
 abbrev pub at : Layer → ℕ → Cell
 at l p = cell (getD (l .pix2depth) p nan) (getD (l .pix2tri) p 0)
 
--- f at n numbers in a row, from p on
-unfoldable pub tabulate {ℓ} : {A : Type ℓ} → (ℕ → A) → ℕ → ℕ → List A
-tabulate f p zero = []
-tabulate f p (suc n) = f p ∷ tabulate f (suc p) n
-
 -- the layer of n pixels that holds f p at pixel p
 abbrev pub pixelwise : ℕ → (ℕ → Cell) → Layer
-pixelwise n f = layer (tabulate (λ p. f p .number) 0 n) (tabulate (λ p. f p .depth) 0 n)
-
--- the outcome of a call that is lent one layer to write: its code, and the layer afterwards
-pub record Outcome : Type 0 where
-  pub code : ℕ
-  pub left : Layer
-
-abbrev pub outcome : ℕ → List ℕ → List Float → Outcome
-outcome code ns ds = record { code = code; left = layer ns ds }
-
--- a refused call leaves the layer as it was
-abbrev pub answer : ℕ → Layer → Layer → Outcome
-answer code before after = record { code = code; left = unlessRefused code before after }
+pixelwise n f = layer (tabulate (λ p. f p .payload) 0 n) (tabulate (λ p. f p .depth) 0 n)

@@ -1,6 +1,5 @@
--- 01, "Drawing": a layer's pixels, which offer a pixel shows, and the calls that clear and join layers.
+-- 01, "Drawing": a layer's pixels, and the calls that clear and join layers.
 pub mod Cell
-pub mod Offers
 pub mod Layer
 pub mod Calls
 pub mod Steps

@@ -17,4 +17,4 @@ pub record Reaches (l : Layer) (p : ℕ) : Type 0 where
 
 -- the layer with the cell c at pixel p
 abbrev pub written : Layer → ℕ → Cell → Layer
-written l p c = layer (set (l .pix2tri) p (c .number)) (set (l .pix2depth) p (c .depth))
+written l p c = layer (set (l .pix2tri) p (c .payload)) (set (l .pix2depth) p (c .depth))

@@ -2,42 +2,33 @@
 ghost use mathlib.Core.Path.{_≡_};
 ghost use mathlib.Core.Bool.{cond};
 ghost use lib.Ieee.{lt};
-ghost use lib.ListN.{length};
-ghost use Rattle.layers.specs.Cell.{pick};
-ghost use Rattle.layers.specs.Layer.{layer, at, tabulate, pixelwise};
+ghost use Rattle.offers.specs.Offer.{pick};
+ghost use Rattle.layers.specs.Cell.{clear};
+ghost use Rattle.layers.specs.Layer.{layer, at, pixelwise};
 ghost use Rattle.layers.specs.Steps.{Spans, Reaches, written};
 
-// `value` at every place.
-pub fn fill_numbers(s: &mut [u32], value: u32)
-    ensures { λ r. ⌜ now (s .exit) ≡ tabulate (λ p. value) 0 (length (now (s .entry))) ⌝ }
+// Depth −infinity and the map's entry 4294967295 at `n` pixels.
+pub fn clear_pixels(pix2tri: &mut [u32], pix2depth: &mut [f32], n: usize)
+    requires { ⌜ Spans (layer (now pix2tri) (now pix2depth)) n ⌝ }
+    ensures { λ r. ⌜ layer (now (pix2tri .exit)) (now (pix2depth .exit)) ≡ pixelwise n (λ p. clear) ⌝ }
 {
     let mut i = 0;
-    while i < s.len() {
-        s[i] = value;
-        i += 1;
-    }
-}
-
-// `value` at every place.
-pub fn fill_depths(s: &mut [f32], value: f32)
-    ensures { λ r. ⌜ now (s .exit) ≡ tabulate (λ p. value) 0 (length (now (s .entry))) ⌝ }
-{
-    let mut i = 0;
-    while i < s.len() {
-        s[i] = value;
+    while i < n {
+        pix2tri[i] = questions::EMPTY;
+        pix2depth[i] = -1.0 / 0.0;
         i += 1;
     }
 }
 
 // The depth, and below the number, of what is left of two pixels. Each is a choice between two values and no
 // branch, so that the compiler joins several pixels at a time.
-fn pick_depth(left: f32, right: f32) -> f32
+pub fn pick_depth(left: f32, right: f32) -> f32
     ensures { λ r. ⌜ r ≡ cond (lt left right) right left ⌝ }
 {
     if left < right { right } else { left }
 }
 
-fn pick_number(left: f32, right: f32, left_tri: u32, right_tri: u32) -> u32
+pub fn pick_number(left: f32, right: f32, left_tri: u32, right_tri: u32) -> u32
     ensures { λ r. ⌜ r ≡ cond (lt left right) «right_tri» «left_tri» ⌝ }
 {
     if left < right { right_tri } else { left_tri }

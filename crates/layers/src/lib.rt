@@ -1,10 +1,11 @@
 // Layers: the public calls `clear` and `join`.
 ghost use mathlib.Core.Path.{_≡_};
 ghost use Rattle.questions.specs.Laws.{Sized};
-ghost use Rattle.layers.specs.Layer.{layer, outcome};
+ghost use Rattle.questions.specs.Questions.{outcome};
+ghost use Rattle.layers.specs.Layer.{layer};
 ghost use Rattle.layers.specs.Calls.{exactLayer, clearCode, clearing, joinCode, joining};
 
-mod cells;
+pub mod cells;
 
 // Question 4 of one layer, for the calls that are lent one.
 pub fn layer_ok(pix2tri: &[u32], pix2depth: &[f32], img_w: usize, img_h: usize) -> bool
@@ -57,14 +58,13 @@ fn join_code(
 
 // Depth −infinity and the map's entry 4294967295 at every pixel.
 pub fn clear(pix2tri: &mut [u32], pix2depth: &mut [f32], img_w: usize, img_h: usize) -> u32
-    ensures { λ r. ⌜ outcome r (now (pix2tri .exit)) (now (pix2depth .exit)) ≡ clearing (layer (now (pix2tri .entry)) (now (pix2depth .entry))) «img_w» «img_h» ⌝ }
+    ensures { λ r. ⌜ outcome r (layer (now (pix2tri .exit)) (now (pix2depth .exit))) ≡ clearing (layer (now (pix2tri .entry)) (now (pix2depth .entry))) «img_w» «img_h» ⌝ }
 {
     let code = clear_code(pix2tri, pix2depth, img_w, img_h);
     if code != 0 {
         return code;
     }
-    cells::fill_numbers(pix2tri, questions::EMPTY);
-    cells::fill_depths(pix2depth, -1.0 / 0.0);
+    cells::clear_pixels(pix2tri, pix2depth, img_w * img_h);
     0
 }
 
@@ -77,7 +77,7 @@ pub fn join(
     img_w: usize,
     img_h: usize,
 ) -> u32
-    ensures { λ r. ⌜ outcome r (now («left_pix2tri» .exit)) (now («left_pix2depth» .exit))
+    ensures { λ r. ⌜ outcome r (layer (now («left_pix2tri» .exit)) (now («left_pix2depth» .exit)))
         ≡ joining (layer (now («left_pix2tri» .entry)) (now («left_pix2depth» .entry)))
         (layer (now («right_pix2tri» .entry)) (now («right_pix2depth» .entry))) «img_w» «img_h» ⌝ }
 {

@@ -1,16 +1,23 @@
 -- Proved of the definitions, for the crates that use them.
-use Prim.Native.Nat.{ℕ, zero, suc, _<_}
-use mathlib.Core.Path.{_≡_, refl, _∙_}
+use Prim.Native.Nat.{ℕ, zero, suc, _+_, _*_, _/_, _≤_, _<_}
+use mathlib.Core.Path.{_≡_, refl, sym, ap, _∙_}
+use mathlib.Core.Bool.{true}
 use mathlib.Core.Option.{none, some}
-use mathlib.Core.List.{List, [], _∷_, _++_}
-use native.Mathlib.Nat.{not-suc-le-zero, le-of-suc-le-suc}
+use mathlib.Core.List.{List, [], _∷_, _++_, flatMap}
+use native.Mathlib.Nat.{not-suc-le-zero, le-of-suc-le-suc, zero-add}
+use native.Mathlib.Omega.{arith}
 use borrow.Author.Tests.{eq-eqb, ne-eqb}
 use lib.Ieee.{Float}
 use lib.ListN.{length, getD, length-set}
-use Rattle.questions.specs.Questions.{empty}
+use Rattle.lists.specs.Lists.{span}
+use Rattle.lists.specs.Laws.Turns.{flatMap-none, flatMap-one, flatMap-add}
+use Rattle.lists.specs.Laws.Every.{every-at}
+use Rattle.questions.specs.Questions.{allBelow, namesFace, namesFaces, empty, mostCount}
+use Rattle.questions.specs.Laws.{Sized, Grouped, whole, below-at}
 use Rattle.meshes.specs.Mesh.{faceAt}
 use Rattle.meshes.specs.View.{named, entryAt}
 use Rattle.meshes.specs.Sums.{Addition, added, summed}
+use Rattle.meshes.specs.Sound.{SoundMesh, SoundMap}
 
 getD-any : (l : List ℕ) (i a b : ℕ) → i < length l → getD l i a ≡ getD l i b
 getD-any [] i a b h = absurd (not-suc-le-zero h)
@@ -40,3 +47,58 @@ pub length-summed : (s : List Float) (xs : List Addition) → length (summed s x
 unfolding summed added
 length-summed s [] = refl
 length-summed s (x ∷ xs) = length-summed (added s x) xs ∙ length-set s (x .place) _
+
+-- ---- sums in turn: what is added first and what is added then
+
+module _ (f : ℕ → List Addition) (s : List Float) where
+  pub turns-none : (a : ℕ) → s ≡ summed s (flatMap f (span a 0))
+  unfolding summed
+  turns-none a = rw (flatMap-none f a)
+
+  -- n turns from a on, and m more
+  pub turns-add : (a n m : ℕ) → summed s (flatMap f (span a (n + m))) ≡ summed (summed s (flatMap f (span a n))) (flatMap f (span (a + n) m))
+  turns-add a n m = ap (summed s) (flatMap-add f a n m) ∙ summed-append s (flatMap f (span a n)) (flatMap f (span (a + n) m))
+
+  pub turns-one : (p : ℕ) → summed s (flatMap f (span p 1)) ≡ summed s (f p)
+  turns-one p = ap (summed s) (flatMap-one f p)
+
+-- turn j of a loop from 0 on
+pub turns-more : (f : ℕ → List Addition) (s : List Float) (j : ℕ) {cur new : List Float} → cur ≡ summed s (flatMap f (span 0 j)) → new ≡ summed cur (f j)
+    → new ≡ summed s (flatMap f (span 0 (j + 1)))
+turns-more f s j {cur} e step =
+    step
+    ∙ ap (λ (t : List Float). summed t (f j)) e
+    ∙ ap (λ (k : ℕ). summed (summed s (flatMap f (span 0 j))) (f k)) (sym (zero-add j))
+    ∙ sym (turns-add f s 0 j 1 ∙ turns-one f (summed s (flatMap f (span 0 j))) (0 + j))
+
+pub turns-ended : (f : ℕ → List Addition) (s : List Float) (j n : ℕ) {cur : List Float} → j ≤ n → n ≤ j → cur ≡ summed s (flatMap f (span 0 j))
+    → cur ≡ summed s (flatMap f (span 0 n))
+turns-ended f s j n l g e = let same : j ≡ n = omega arith in e ∙ ap (λ (k : ℕ). summed s (flatMap f (span 0 k))) same
+
+-- ---- an accepted mesh and its map
+
+-- a vertex that a face names is there
+pub corner-there : {tri : List ℕ} {xyz : List Float} → SoundMesh tri xyz → (j : ℕ) → j < length tri → 3 * getD tri j 0 + 2 < length xyz
+corner-there {tri} {xyz} s j h =
+    let e = s .vertices in
+    let l = below-at (length xyz / 3) tri (s .named) j h in
+    omega arith
+
+-- each entry of the map names a face or none
+pub entry-named : {tri map : List ℕ} {xyz : List Float} {w h : ℕ} → SoundMap tri xyz map w h → (p : ℕ) → p < w * h → namesFace (length tri / 3) (getD map p 0) ≡ true
+entry-named {tri} {map} {xyz} {w} {h} s p l = every-at (namesFace (length tri / 3)) map (s .named) p (omega (arith, s .whole))
+
+-- the entry that the code reads at pixel p, found in the view under p's number n
+pub entry-shown : {tri map : List ℕ} {xyz : List Float} {w h p n : ℕ} → SoundMap tri xyz map w h → (p ≡ n) × (p < w * h) → entryAt map n ≡ getD map p 0
+entry-shown {tri} {map} {xyz} {w} {h} {p} {n} s k = ap (entryAt map) (sym (k .0)) ∙ sym (entry-read map p (omega (arith, s .whole, k .1)))
+
+-- questions 1, 3, 4, 6 and 7 of the mesh and its map, answered yes
+pub sound : {tri map : List ℕ} {xyz : List Float} {w h : ℕ} → Sized 1 w h → Grouped 3 mostCount (length tri) → Grouped 3 mostCount (length xyz) → length map ≡ w * h
+    → allBelow (length xyz / 3) tri ≡ true → namesFaces (length tri / 3) map ≡ true → SoundMap tri xyz map w h
+sound {tri} {map} {xyz} q1 q3 q3' q4 q6 q7 =
+    record {
+      mesh = record { faces = whole 3 mostCount (length tri) q3; vertices = whole 3 mostCount (length xyz) q3'; named = q6 };
+      size = q1;
+      whole = q4;
+      named = q7;
+    }

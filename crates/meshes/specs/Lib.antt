@@ -2,5 +2,6 @@
 pub mod Mesh
 pub mod View
 pub mod Sums
+pub mod Sound
 -- proved of the definitions above
 pub mod Laws

@@ -5,7 +5,8 @@ ghost use mathlib.Core.Path.{_≡_};
 ghost use lib.Ieee.{binary32, binary64};
 ghost use Rattle.floats.specs.Root.{SquareRoot};
 ghost use Rattle.floats.specs.Narrow.{narrow, hypotOf};
-ghost use Rattle.layers.specs.Layer.{layer, outcome};
+ghost use Rattle.questions.specs.Questions.{outcome};
+ghost use Rattle.layers.specs.Layer.{layer};
 ghost use Rattle.layers.specs.Calls.{clearing, joining};
 ghost use Rattle.meshes.specs.View.{viewOf};
 ghost use Rattle.values.specs.Pass.{image, vertices};
@@ -25,7 +26,7 @@ pub extern "C" fn paqelzim_clear(
     img_w: usize,
     img_h: usize,
 ) -> u32
-    ensures { λ r. ⌜ outcome r (now (pix2tri .exit)) (now (pix2depth .exit)) ≡ clearing (layer (now (pix2tri .entry)) (now (pix2depth .entry))) «img_w» «img_h» ⌝ }
+    ensures { λ r. ⌜ outcome r (layer (now (pix2tri .exit)) (now (pix2depth .exit))) ≡ clearing (layer (now (pix2tri .entry)) (now (pix2depth .entry))) «img_w» «img_h» ⌝ }
 {
     layers::clear(pix2tri, pix2depth, img_w, img_h)
 }
@@ -41,7 +42,7 @@ pub extern "C" fn paqelzim_pix2tri_by_rasterization(
     transform_world2ndc: &[f32; 16],
     first: u32,
 ) -> u32
-    ensures { λ r. ⌜ outcome r (now (pix2tri .exit)) (now (pix2depth .exit))
+    ensures { λ r. ⌜ outcome r (layer (now (pix2tri .exit)) (now (pix2depth .exit)))
         ≡ draws (layer (now (pix2tri .entry)) (now (pix2depth .entry))) (now (tri2vtx .entry)) (now (vtx2xyz .entry)) «img_w» «img_h» (now («transform_world2ndc» .entry)) first ⌝ }
 {
     drawing::pix2tri_by_rasterization(
@@ -65,7 +66,7 @@ pub extern "C" fn paqelzim_join(
     img_w: usize,
     img_h: usize,
 ) -> u32
-    ensures { λ r. ⌜ outcome r (now («left_pix2tri» .exit)) (now («left_pix2depth» .exit))
+    ensures { λ r. ⌜ outcome r (layer (now («left_pix2tri» .exit)) (now («left_pix2depth» .exit)))
         ≡ joining (layer (now («left_pix2tri» .entry)) (now («left_pix2depth» .entry)))
         (layer (now («right_pix2tri» .entry)) (now («right_pix2depth» .entry))) «img_w» «img_h» ⌝ }
 {

@@ -1,2 +1,2 @@
 -- Lemmas that several proofs cite.
-pub mod Bit
+pub mod Tests

@@ -3,8 +3,10 @@
 use geometry::Projected;
 use geometry::Vec3;
 ghost use mathlib.Core.Path.{_≡_};
+ghost use mathlib.Core.Bool.{_&&_};
 ghost use mathlib.Core.Option.{some};
-ghost use mathlib.Core.List.{_∷_, []};
+ghost use mathlib.Core.List.{List, _∷_, []};
+ghost use lib.Ieee.{Float};
 ghost use Rattle.geometry.specs.Arith.{floats};
 ghost use Rattle.geometry.specs.Answer.{point3, projectedOf};
 ghost use Rattle.rules.specs.Piece as rule;
@@ -19,7 +21,7 @@ pub struct Corner {
     pub c: f32,
 }
 
-// One has its first corner inside, Two its first corner outside.
+// The first corner of One is alone beyond the near plane, that of Two alone before it.
 pub enum Pieces {
     Nothing,
     Whole(Corner, Corner, Corner),
@@ -75,7 +77,7 @@ pub fn whole(a: Corner, b: Corner, c: Corner) -> [[f32; 3]; 3]
     [[a.x, a.y, a.z], [b.x, b.y, b.z], [c.x, c.y, c.z]]
 }
 
-// The corners of the one piece at a, which alone is inside.
+// The corners of the one piece at a, which alone is beyond the near plane.
 pub fn one_piece(a: Corner, b: Corner, c: Corner) -> [[f32; 3]; 3]
     ensures { λ r. ⌜ pieceOf r ∷ [] ≡ rule.onePiece (cornerOf a) (cornerOf b) (cornerOf c) ⌝ }
 {
@@ -84,7 +86,7 @@ pub fn one_piece(a: Corner, b: Corner, c: Corner) -> [[f32; 3]; 3]
     [[a.x, a.y, a.z], [ab.x, ab.y, ab.z], [ac.x, ac.y, ac.z]]
 }
 
-// The corners of the first of two pieces, where c alone is outside.
+// The corners of the first of two pieces, where c alone is before the near plane.
 pub fn first_piece(c: Corner, a: Corner, b: Corner) -> [[f32; 3]; 3]
     ensures { λ r. ⌜ pieceOf r ≡ rule.firstPiece (cornerOf c) (cornerOf a) (cornerOf b) ⌝ }
 {
@@ -101,95 +103,102 @@ pub fn second_piece(c: Corner, a: Corner, b: Corner) -> [[f32; 3]; 3]
     [[b.x, b.y, b.z], [bc.x, bc.y, bc.z], [ac.x, ac.y, ac.z]]
 }
 
-fn inside(v: Corner) -> bool
-    ensures { λ r. ⌜ r ≡ rule.inside (cornerOf v) ⌝ }
+// At or beyond the near plane.
+fn beyond_near(v: Corner) -> bool
+    ensures { λ r. ⌜ r ≡ rule.beyondNear (cornerOf v) ⌝ }
 {
     v.c >= 0.0
 }
 
-fn outside(v: Corner) -> bool
-    ensures { λ r. ⌜ r ≡ rule.outside (cornerOf v) ⌝ }
+// Between the camera and the near plane.
+fn before_near(v: Corner) -> bool
+    ensures { λ r. ⌜ r ≡ rule.beforeNear (cornerOf v) ⌝ }
 {
     v.c < 0.0
 }
 
-fn all_inside(v0: Corner, v1: Corner, v2: Corner) -> bool
-    ensures { λ r. ⌜ r ≡ rule.allInside (cornerOf v0) (cornerOf v1) (cornerOf v2) ⌝ }
+fn all(a: bool, b: bool, c: bool) -> bool
+    ensures { λ r. ⌜ r ≡ a && (b && c) ⌝ }
 {
-    if !inside(v0) {
+    if !a {
         return false;
     }
-    if !inside(v1) {
+    if !b {
         return false;
     }
-    inside(v2)
+    c
 }
 
-fn all_outside(v0: Corner, v1: Corner, v2: Corner) -> bool
-    ensures { λ r. ⌜ r ≡ rule.allOutside (cornerOf v0) (cornerOf v1) (cornerOf v2) ⌝ }
+fn beyond_bit(v: Corner) -> u32
+    ensures { λ r. ⌜ r ≡ rule.beyondBit (cornerOf v) ⌝ }
 {
-    if !outside(v0) {
-        return false;
-    }
-    if !outside(v1) {
-        return false;
-    }
-    outside(v2)
-}
-
-fn inside_bit(v: Corner) -> u32
-    ensures { λ r. ⌜ r ≡ rule.insideBit (cornerOf v) ⌝ }
-{
-    if inside(v) {
+    if beyond_near(v) {
         return 1;
     }
     0
 }
 
-fn clipped_to_one(v0: Corner, v1: Corner, v2: Corner) -> Pieces
-    ensures { λ r. ⌜ piecesOf r ≡ rule.clippedToOne (cornerOf v0) (cornerOf v1) (cornerOf v2) ⌝ }
-{
-    if inside(v0) {
-        return Pieces::One(v0, v1, v2);
-    }
-    if inside(v1) {
-        return Pieces::One(v1, v0, v2);
-    }
-    Pieces::One(v2, v0, v1)
+// Three corners, of which the first is alone on its side of the near plane.
+struct Turned {
+    lone: Corner,
+    a: Corner,
+    b: Corner,
 }
 
-fn clipped_to_two(v0: Corner, v1: Corner, v2: Corner) -> Pieces
-    ensures { λ r. ⌜ piecesOf r ≡ rule.clippedToTwo (cornerOf v0) (cornerOf v1) (cornerOf v2) ⌝ }
+// v0 is alone where l0, else v1 where l1, else v2.
+fn lone_first(l0: bool, l1: bool, v0: Corner, v1: Corner, v2: Corner) -> Turned
+    ensures { λ r. ⌜ ((make : rule.Corner Float → rule.Corner Float → rule.Corner Float → List rule.Piece)
+        → make (cornerOf (r .lone)) (cornerOf (r .a)) (cornerOf (r .b)) ≡ rule.loneFirst l0 l1 make (cornerOf v0) (cornerOf v1) (cornerOf v2)) ⌝ }
 {
-    if outside(v0) {
-        return Pieces::Two(v0, v1, v2);
+    if l0 {
+        return Turned {
+            lone: v0,
+            a: v1,
+            b: v2,
+        };
     }
-    if outside(v1) {
-        return Pieces::Two(v1, v0, v2);
+    if l1 {
+        return Turned {
+            lone: v1,
+            a: v0,
+            b: v2,
+        };
     }
-    Pieces::Two(v2, v0, v1)
+    Turned {
+        lone: v2,
+        a: v0,
+        b: v1,
+    }
 }
 
-// Some corners inside and some not, or a score that is NaN.
+// Some corners beyond and some not, or a score that is NaN.
 fn mixed(v0: Corner, v1: Corner, v2: Corner) -> Pieces
     ensures { λ r. ⌜ piecesOf r ≡ rule.mixed (cornerOf v0) (cornerOf v1) (cornerOf v2) ⌝ }
 {
-    let b0 = inside_bit(v0);
-    let b1 = inside_bit(v1);
-    let b2 = inside_bit(v2);
+    let b0 = beyond_bit(v0);
+    let b1 = beyond_bit(v1);
+    let b2 = beyond_bit(v2);
     if b0 + b1 + b2 == 1 {
-        return clipped_to_one(v0, v1, v2);
+        let t = lone_first(beyond_near(v0), beyond_near(v1), v0, v1, v2);
+        let lone = t.lone;
+        let a = t.a;
+        let b = t.b;
+        return Pieces::One(lone, a, b);
     }
-    clipped_to_two(v0, v1, v2)
+    let t = lone_first(before_near(v0), before_near(v1), v0, v1, v2);
+    let lone = t.lone;
+    let a = t.a;
+    let b = t.b;
+    Pieces::Two(lone, a, b)
 }
 
 fn clipped(v0: Corner, v1: Corner, v2: Corner) -> Pieces
     ensures { λ r. ⌜ piecesOf r ≡ rule.clipped (cornerOf v0) (cornerOf v1) (cornerOf v2) ⌝ }
 {
-    if all_inside(v0, v1, v2) {
+    if all(beyond_near(v0), beyond_near(v1), beyond_near(v2)) {
         return Pieces::Whole(v0, v1, v2);
     }
-    if all_outside(v0, v1, v2) {
+    if all(before_near(v0), before_near(v1), before_near(v2)) {
         return Pieces::Nothing;
     }
     mixed(v0, v1, v2)

@@ -2,9 +2,11 @@
 
 ghost use mathlib.Core.Path.{_≡_};
 ghost use Prim.Native.Nat.{_+_, _*_, _<_, _≤_};
+ghost use Rattle.geometry.specs.Answer.{point2};
 ghost use Rattle.pixels.specs.Pixel as spec;
 ghost use Rattle.pixels.specs.Edge.{axis, edgeCount};
 ghost use Rattle.pixels.specs.Laws.{Follows};
+use geometry::Vec2;
 
 // n as f32, of a column, row or size.
 pub fn as_float(n: usize) -> f32
@@ -20,6 +22,17 @@ pub fn centre(i: usize) -> f32
     ensures { λ r. ⌜ r ≡ spec.centre i ⌝ }
 {
     as_float(i) + 0.5
+}
+
+// The centre of the pixel (x, y).
+pub fn centre_of(x: usize, y: usize) -> Vec2
+    requires { ⌜ (x ≤ 4096) × (y ≤ 4096) ⌝ }
+    ensures { λ r. ⌜ point2 r ≡ spec.centreOf (spec.pixel x y) ⌝ }
+{
+    Vec2 {
+        x: centre(x),
+        y: centre(y),
+    }
 }
 
 // The number of the pixel (x, y).

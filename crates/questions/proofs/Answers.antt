@@ -9,7 +9,8 @@ use lib.Seq.{drop-cons}
 use native.Mathlib.Omega.{arith}
 use native.Mathlib.Numerals.{add-one}
 use borrow.Author.Tests.{leb-true, leb-false, le-leb, lt-leb}
-use Rattle.questions.specs.Questions.{mostCount, every}
+use Rattle.lists.specs.Lists.{every}
+use Rattle.questions.specs.Questions.{mostCount}
 
 pub above : (first faces : ℕ) → mostCount < faces → mostCount < first + faces
 above first faces h = omega arith
@@ -20,19 +21,3 @@ moved first faces h = go (leb first (mostCount - faces)) refl
     go : (b : Bool) → leb first (mostCount - faces) ≡ b → b ≡ leb (first + faces) mostCount
     go true e = rw (le-leb (first + faces) mostCount (omega (arith, leb-true first (mostCount - faces) e)))
     go false e = rw (lt-leb (first + faces) mostCount (omega (arith, leb-false first (mostCount - faces) e)))
-
-module _ (test : ℕ → Bool) (xs : List ℕ) (i : ℕ) where
-  every-at : i < length xs → every test (drop i xs) ≡ test (getD xs i 0) && every test (drop (suc i) xs)
-  unfolding every
-  every-at h = rw (drop-cons xs i 0 h)
-
-  pub more : (i ≤ length xs) × (every test xs ≡ every test (drop i xs)) → i < length xs → test (getD xs i 0) ≡ true
-      → (i + 1 ≤ length xs) × (every test xs ≡ every test (drop (i + 1) xs))
-  more p h t = (omega arith, p .1 ∙ every-at h ∙ rw (t, add-one))
-
-  pub stopped : every test xs ≡ every test (drop i xs) → i < length xs → test (getD xs i 0) ≡ false → false ≡ every test xs
-  stopped p h t = sym (p ∙ every-at h ∙ rw t)
-
-  pub ended : every test xs ≡ every test (drop i xs) → length xs ≤ i → true ≡ every test xs
-  unfolding every
-  ended p h = sym (p ∙ rw (drop-of-length-le xs h))

@@ -1,41 +1,17 @@
 -- Proved of the questions, for the crates that ask them.
-use Prim.Native.Nat.{ℕ, zero, suc, _*_, _/_, _%_, _≤_, _<_}
-use mathlib.Core.Path.{_≡_, refl, sym, _∙_}
-use mathlib.Core.Bool.{Bool, true, false, not, _&&_, or-false, cond, false≢true}
+use Prim.Native.Nat.{ℕ, suc, _*_, _/_, _%_, _≤_, _<_}
+use mathlib.Core.Path.{_≡_, refl, sym, ap, _∙_}
+use mathlib.Core.Bool.{Bool, true, false, _&&_, or-false}
 use mathlib.Core.List.{List, [], _∷_}
-use native.Mathlib.Nat.{mul-le-mul, div-add-mod, not-suc-le-zero, le-of-suc-le-suc}
+use native.Mathlib.Nat.{mul-le-mul, div-add-mod}
 use native.Mathlib.Omega.{arith}
-use borrow.Author.Tests.{leb-true, ltb-true, eqb-true, eq-eqb, ne-eqb, not-true, not-false}
+use borrow.Author.Tests.{leb-true, ltb-true, eqb-true, eq-eqb, ne-eqb}
 use lib.Dec.{leb, ltb, eqb}
 use lib.ListN.{length, getD}
-use Rattle.questions.specs.Questions.{Question, ask, firstNo, unlessRefused, sizes, channels, groups, exact, every, allBelow, namesFace, empty, mostSize, mostChannels, mostCount}
+use Rattle.lists.specs.Laws.Tests.{both, else-is}
+use Rattle.lists.specs.Laws.Every.{every-at}
+use Rattle.questions.specs.Questions.{Question, ask, firstNo, outcome, answer, sizes, channels, groups, slices, exact, allBelow, namesFace, empty, mostSize, mostChannels, mostCount}
 pub mod Opening
-
--- both halves of a conjunction that is true
-pub both : (a b : Bool) → a && b ≡ true → (a ≡ true) × (b ≡ true)
-both true b e = (refl, e)
-both false b e = absurd (false≢true e)
-
--- a test `if !answer(..)` in the code
-pub said-no : {r t : Bool} → r ≡ t → not r ≡ true → t ≡ false
-said-no {r} e n = sym e ∙ not-true r n
-
-pub said-yes : {r t : Bool} → r ≡ t → not r ≡ false → t ≡ true
-said-yes {r} e n = sym e ∙ not-false r n
-
--- a branch in the code, by its test
-pub then-is : {A : Type 0} {b : Bool} {x : A} (y : A) → b ≡ true → x ≡ cond b x y
-then-is y e = rw e
-
-pub else-is : {A : Type 0} {b : Bool} (x : A) {y : A} → b ≡ false → y ≡ cond b x y
-else-is x e = rw e
-
--- a conjunction whose first part is known
-pub after-yes : {a b v : Bool} → a ≡ true → b ≡ v → a && b ≡ v
-after-yes p q = rw (p, q)
-
-pub after-no : {a : Bool} (b : Bool) → a ≡ false → a && b ≡ false
-after-no b p = rw p
 
 -- how a call's code comes of its answers: a no gives the question's number ..
 pub refuses : (n : ℕ) {a : Bool} (qs : List Question) → a ≡ false → n ≡ firstNo (ask n a ∷ qs)
@@ -52,12 +28,12 @@ pub ends : 0 ≡ firstNo []
 unfolding firstNo
 ends = refl
 
--- what a refused call was lent, and what an accepted one was
-pub untouched : {A : Type 0} (code : ℕ) {before : A} (after : A) → (code ≡ 0 → ⊥) → before ≡ unlessRefused code before after
-untouched code after no0 = else-is after (ne-eqb code 0 no0)
+-- a call whose code is k: the outcome of a refused one, and of an accepted one that made what its definition says
+pub call-refused : {A : Type 0} {code k : ℕ} {before : A} (after : A) → code ≡ k → (code ≡ 0 → ⊥) → outcome code before ≡ answer k before after
+call-refused {A} {code} {k} {before} after e no0 = rw (← e) (ap (outcome code) (else-is after (ne-eqb code 0 no0)))
 
-pub replaced : {A : Type 0} (code : ℕ) (before : A) {after : A} → code ≡ 0 → after ≡ unlessRefused code before after
-replaced code before e = then-is before (eq-eqb code 0 e)
+pub call-done : {A : Type 0} {code k : ℕ} (before : A) {after new : A} → code ≡ k → code ≡ 0 → new ≡ after → outcome 0 new ≡ answer k before after
+call-done before e zero0 made = rw (← e, zero0) (ap (outcome 0) made)
 
 -- an accepted call: the first question is answered yes, and the others accept
 pub accepted : (n : ℕ) (a : Bool) (qs : List Question) → firstNo (ask (suc n) a ∷ qs) ≡ 0 → (a ≡ true) × (firstNo qs ≡ 0)
@@ -103,37 +79,33 @@ pub area-fits : (w h c : ℕ) → Sized 1 w h → Channels c → w * h * c ≤ 2
 area-fits w h c s k = mul-le-mul (area 1 w h s) (k .most)
 
 -- what question 3 answered yes says of n numbers in groups
-pub record Grouped (of n : ℕ) : Type 0 where
+pub record Grouped (of bound n : ℕ) : Type 0 where
   pub rest : n % of ≡ 0
-  pub most : n / of ≤ mostCount
+  pub most : n / of ≤ bound
 
-pub grouped : (of n : ℕ) → groups of n ≡ true → Grouped of n
+pub grouped : (of bound n : ℕ) → groups of bound n ≡ true → Grouped of bound n
 unfolding groups
-grouped of n e = let p = both (eqb (n % of) 0) _ e in record { rest = eqb-true _ _ (p .0); most = leb-true _ _ (p .1) }
+grouped of bound n e = let p = both (eqb (n % of) 0) _ e in record { rest = eqb-true _ _ (p .0); most = leb-true _ _ (p .1) }
+
+pub sliced : (tri xyz : ℕ) → slices tri xyz ≡ true → Grouped 3 mostCount tri × Grouped 3 mostCount xyz
+sliced tri xyz e = let p = both (groups 3 mostCount tri) _ e in (grouped 3 mostCount tri (p .0), grouped 3 mostCount xyz (p .1))
 
 -- the groups are all of them
-pub whole : (of n : ℕ) → Grouped of n → of * (n / of) ≡ n
-whole of n g = omega (arith, g .rest, div-add-mod n of)
+pub whole : (of bound n : ℕ) → Grouped of bound n → of * (n / of) ≡ n
+whole of bound n g = omega (arith, g .rest, div-add-mod n of)
 
 -- question 4 answered by a length, and what a yes says
-pub exact-yes : (n length : ℕ) → length ≡ n → exact n length ≡ true
+pub exact-yes : (n len : ℕ) → len ≡ n → exact n len ≡ true
 unfolding exact
-exact-yes n length e = eq-eqb length n e
+exact-yes n len e = eq-eqb len n e
 
-pub exact-no : (n length : ℕ) → (length ≡ n → ⊥) → exact n length ≡ false
+pub exact-no : (n len : ℕ) → (len ≡ n → ⊥) → exact n len ≡ false
 unfolding exact
-exact-no n length e = ne-eqb length n e
+exact-no n len e = ne-eqb len n e
 
-pub exactly : (n length : ℕ) → exact n length ≡ true → length ≡ n
+pub exactly : (n len : ℕ) → exact n len ≡ true → len ≡ n
 unfolding exact
-exactly n length e = eqb-true length n e
-
--- what every number of a list passes, the number at i passes
-pub every-at : (test : ℕ → Bool) (xs : List ℕ) → every test xs ≡ true → (i : ℕ) → i < length xs → test (getD xs i 0) ≡ true
-unfolding every
-every-at test [] e i h = absurd (not-suc-le-zero h)
-every-at test (x ∷ xs) e zero h = both (test x) _ e .0
-every-at test (x ∷ xs) e (suc i) h = every-at test xs (both (test x) _ e .1) i (le-of-suc-le-suc h)
+exactly n len e = eqb-true len n e
 
 -- what question 6 answered yes says of the number at i
 pub below-at : (n : ℕ) (xs : List ℕ) → allBelow n xs ≡ true → (i : ℕ) → i < length xs → getD xs i 0 < n

@@ -1,13 +1,13 @@
 // 01, "The questions, in order": the answers that several calls share. Nothing here writes, and no function here is a public call.
 ghost use mathlib.Core.Path.{_≡_};
 ghost use Prim.Native.Nat.{_<_};
-ghost use Rattle.questions.specs.Questions.{firstNo, sizes, channels, groups, numbers, allBelow, namesFace, namesFaces, opening};
+ghost use Rattle.questions.specs.Questions.{firstNo, sizes, channels, groups, slices, numbers, allBelow, namesFace, namesFaces, opening, naming};
 
 const MOST_SIZE: usize = 4096;
 
 const MOST_CHANNELS: usize = 16;
 
-const MOST_COUNT: usize = 1048576;
+pub const MOST_COUNT: usize = 1048576;
 
 // The map's entry of a pixel that shows no face.
 pub const EMPTY: u32 = 4294967295;
@@ -38,15 +38,25 @@ pub fn channels_ok(count: usize) -> bool
     count <= MOST_CHANNELS
 }
 
-// Question 3: does a slice of length `len` hold whole groups of `of` numbers, at most 1,048,576 of them?
-pub fn groups_ok(of: usize, len: usize) -> bool
+// Question 3: does a slice of length `len` hold whole groups of `of` numbers, at most `most` of them?
+pub fn groups_ok(of: usize, most: usize, len: usize) -> bool
     requires { ⌜ 0 < of ⌝ }
-    ensures { λ r. ⌜ r ≡ groups of len ⌝ }
+    ensures { λ r. ⌜ r ≡ groups of most len ⌝ }
 {
     if len % of != 0 {
         return false;
     }
-    len / of <= MOST_COUNT
+    len / of <= most
+}
+
+// Question 3 of a mesh whose face slice and vertex slice are so long.
+pub fn slices_ok(tri: usize, xyz: usize) -> bool
+    ensures { λ r. ⌜ r ≡ slices tri xyz ⌝ }
+{
+    if !groups_ok(3, MOST_COUNT, tri) {
+        return false;
+    }
+    groups_ok(3, MOST_COUNT, xyz)
 }
 
 // Question 5: is `first` plus `faces` at most 1,048,576? The sum is not formed, so it cannot wrap.
@@ -107,11 +117,21 @@ pub fn opening_code(w: usize, h: usize, c: usize, tri: usize, xyz: usize) -> u32
     if !channels_ok(c) {
         return 2;
     }
-    if !groups_ok(3, tri) {
+    if !slices_ok(tri, xyz) {
         return 3;
     }
-    if !groups_ok(3, xyz) {
-        return 3;
+    0
+}
+
+// Questions 6 and 7.
+pub fn naming_code(vertices: usize, tri2vtx: &[u32], pix2tri: &[u32]) -> u32
+    ensures { λ r. ⌜ r ≡ firstNo (naming vertices (now (tri2vtx .entry)) (now (pix2tri .entry))) ⌝ }
+{
+    if !all_below(vertices, tri2vtx) {
+        return 6;
+    }
+    if !names_faces(tri2vtx.len() / 3, pix2tri) {
+        return 7;
     }
     0
 }

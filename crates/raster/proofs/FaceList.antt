@@ -10,8 +10,8 @@ use lib.Seq.{drop-cons}
 use lib.Ieee.{Float}
 use Rattle.geometry.specs.Vector.{Vec3}
 use Rattle.layers.specs.Cell.{Cell}
-use Rattle.layers.specs.Offers.{numbered}
-use Rattle.layers.specs.Offers as layers
+use Rattle.offers.specs.Offers.{numbered}
+use Rattle.offers.specs.Offers as any
 use Rattle.layers.specs.Layer.{Layer}
 use Rattle.layers.specs.Steps.{Spans}
 use Rattle.meshes.specs.Mesh.{Face, face, faceAt, facesOf, vertexAt}
@@ -20,7 +20,7 @@ use Rattle.rules.specs.Offers.{Scene, scene, facePieces, piecesBring, brings, b
 use Rattle.rules.specs.Draw.{painted, drawn}
 use Rattle.rules.specs.Laws.Paint.{painted-none, painted-same, painted-append}
 use Rattle.raster.specs.Face.{piecesCells}
-use Rattle.raster.proofs.Turns.{spans-is}
+use Rattle.scan.proofs.Turns.{spans-is}
 
 pub length-faces : (tri : List ℕ) → length (facesOf tri) ≡ length tri / 3
 unfolding facesOf
@@ -56,11 +56,11 @@ faces-from tri i h =
 module _ (sc : Scene) where
   -- what is still to be brought, with the face at hand
   rest-is : (f : Face) (fs : List Face) (k p : ℕ) → piecesCells (sc .width) (sc .height) (facePieces sc f) k p ++ brought sc fs (k + 1) p ≡ brought sc (f ∷ fs) k p
-  unfolding brought layers.brought piecesCells brings
+  unfolding brought any.brought piecesCells brings
   rest-is f fs k p = rw add-one
 
   pub faces-done : (cur : Layer) (k : ℕ) → Spans cur (sc .width * sc .height) → painted (brought sc [] k) (sc .width * sc .height) cur ≡ cur
-  unfolding brought layers.brought
+  unfolding brought any.brought
   faces-done cur k whole = painted-none (sc .width * sc .height) cur (brought sc [] k) whole (λ p m. refl)
 
   -- a face drawn: the others are left

@@ -1,76 +1,46 @@
 -- One piece and the pieces of a face, painted.
 use Prim.Native.Nat.{ℕ, _*_, _/_, _%_, _≤_, _<_}
 use mathlib.Core.Path.{_≡_, refl, sym, ap, _∙_}
-use mathlib.Core.Bool.{true, false}
 use mathlib.Core.List.{List, [], _∷_, _++_, append-nil}
+use native.Mathlib.Nat.{div-lt-iff-lt-mul, mod-lt}
 use native.Mathlib.Omega.{arith}
 use lib.Ieee.{Float}
 use Rattle.geometry.specs.Vector.{Vec3, Triangle}
 use Rattle.questions.specs.Laws.{Sized}
 use Rattle.layers.specs.Cell.{Cell}
-use Rattle.layers.specs.Offers.{numbered}
+use Rattle.offers.specs.Offers.{numbered}
 use Rattle.layers.specs.Layer.{Layer}
 use Rattle.layers.specs.Steps.{Spans}
 use Rattle.rules.specs.Piece.{Piece}
-use Rattle.rules.specs.Scan.{candidate, least, greatest, screened}
+use Rattle.rules.specs.Scan.{candidate, screened}
 use Rattle.rules.specs.Offers.{pieceBrings, piecesBring}
 use Rattle.rules.specs.Draw.{painted}
 use Rattle.rules.specs.Laws.Paint.{painted-none, painted-same, painted-append}
-use Rattle.raster.specs.Reach.{FirstReached}
-use Rattle.raster.specs.Box.{boxCells}
+use Rattle.boxes.specs.declared.Box.{Box}
+use Rattle.boxes.specs.Box.{Scanned}
+use Rattle.scan.specs.Cells.{boxCells}
 use Rattle.raster.specs.Piece.{pieceCells}
 use Rattle.raster.specs.Face.{piecesCells}
-use Rattle.raster.proofs.Reaching.{range-is}
-use Rattle.raster.proofs.Boxes.{range-none, box-scans, nothing-brought, columnless, rowless}
 
 -- ---- one piece
 
-module _ (s : Triangle (Vec3 Float)) (k w h : ℕ) (l : Layer) (size : Sized 1 w h) (whole : Spans l (w * h)) where
+module _ (s : Triangle (Vec3 Float)) (k w h : ℕ) (l : Layer) (size : Sized 1 w h) where
+  -- column and row of a pixel of the image
+  column-in : (p : ℕ) → p % w < w
+  column-in p = mod-lt p (omega (arith, size .w-least))
+
+  row-in : (p : ℕ) → p < w * h → p / w < h
+  row-in p m = let some : 0 < w = omega (arith, size .w-least) in div-lt-iff-lt-mul some .1 (omega arith)
+
   -- a piece that brings no pixel anything
-  pub untouched : ((ix iy : ℕ) → ix < w → iy < h → candidate s ix iy ≡ []) → l ≡ painted (pieceCells s k w) (w * h) l
-  untouched e =
-      sym (painted-none (w * h) l (pieceCells s k w) whole (nothing-brought s k w h e (omega (arith, size .w-least))))
+  pub untouched : Spans l (w * h) → ((ix iy : ℕ) → ix < w → iy < h → candidate s ix iy ≡ []) → l ≡ painted (pieceCells s k w) (w * h) l
+  unfolding pieceCells numbered
+  untouched whole e = sym (painted-none (w * h) l (pieceCells s k w) whole (λ p m. rw (e (p % w) (p / w) (column-in p) (row-in p m))))
 
-  -- a box of no columns, or of no rows
-  pub thin-columns :
-      (low high : Float) (a b : ℕ)
-      → low ≡ least (s .p0 .x) (s .p1 .x) (s .p2 .x)
-      → high ≡ greatest (s .p0 .x) (s .p1 .x) (s .p2 .x)
-      → FirstReached true low w a
-      → FirstReached false high w b
-      → b ≤ a
-      → l ≡ painted (pieceCells s k w) (w * h) l
-  thin-columns low high a b e g f t m =
-      untouched (λ ix iy i j. columnless s ix iy (rw (← e, ← g) (range-is low high w a b f t ix i ∙ range-none a b ix m)))
-
-  pub thin-rows :
-      (low high : Float) (a b : ℕ)
-      → low ≡ least (s .p0 .y) (s .p1 .y) (s .p2 .y)
-      → high ≡ greatest (s .p0 .y) (s .p1 .y) (s .p2 .y)
-      → FirstReached true low h a
-      → FirstReached false high h b
-      → b ≤ a
-      → l ≡ painted (pieceCells s k w) (w * h) l
-  thin-rows low high a b e g f t m =
-      untouched (λ ix iy i j. rowless s ix iy (rw (← e, ← g) (range-is low high h a b f t iy j ∙ range-none a b iy m)))
-
--- the box that the ends span is the scan of the piece
-pub box-done :
-    (s : Triangle (Vec3 Float)) (k w h : ℕ) (l new : Layer) (size : Sized 1 w h) (lx hx ly hy : Float) (x0 x1 y0 y1 : ℕ)
-    → lx ≡ least (s .p0 .x) (s .p1 .x) (s .p2 .x)
-    → hx ≡ greatest (s .p0 .x) (s .p1 .x) (s .p2 .x)
-    → ly ≡ least (s .p0 .y) (s .p1 .y) (s .p2 .y)
-    → hy ≡ greatest (s .p0 .y) (s .p1 .y) (s .p2 .y)
-    → FirstReached true lx w x0
-    → FirstReached false hx w x1
-    → FirstReached true ly h y0
-    → FirstReached false hy h y1
-    → new ≡ painted (boxCells s k w x0 x1 y0 y1) (w * h) l
-    → new ≡ painted (pieceCells s k w) (w * h) l
-box-done s k w h l new size lx hx ly hy x0 x1 y0 y1 ex gx ey gy a b c d e =
-    e
-    ∙ painted-same (w * h) l (boxCells s k w x0 x1 y0 y1) (pieceCells s k w)
-    (box-scans s k w h x0 x1 y0 y1 (omega (arith, size .w-least)) (rw ex at a) (rw gx at b) (rw ey at c) (rw gy at d))
+  -- the box that the scan visits, painted
+  pub box-done : {b : Box} {new : Layer} → Scanned s w h b → new ≡ painted (boxCells s k w b) (w * h) l → new ≡ painted (pieceCells s k w) (w * h) l
+  unfolding boxCells pieceCells candidate
+  box-done {b} sc e = e ∙ painted-same (w * h) l (boxCells s k w b) (pieceCells s k w) (λ p m. rw (sc .visits (p % w) (p / w) (column-in p) (row-in p m)))
 
 -- ---- the pieces of a face
 

@@ -5,7 +5,7 @@ use lib.Ieee.{Float}
 use Rattle.geometry.specs.Vector.{Vec3, Triangle}
 use Rattle.rules.specs.Scan.{candidate}
 use Rattle.layers.specs.Cell.{Cell}
-use Rattle.layers.specs.Offers.{numbered}
+use Rattle.offers.specs.Offers.{numbered}
 
 unfoldable pub pieceCells : Triangle (Vec3 Float) → ℕ → ℕ → ℕ → List Cell
 pieceCells s k w p = numbered k (candidate s (p % w) (p / w))

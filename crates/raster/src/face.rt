@@ -4,19 +4,20 @@ use geometry::Projection;
 use geometry::Vec3;
 use pieces::Pieces;
 ghost use mathlib.Core.Path.{_≡_};
-ghost use mathlib.Core.Bool.{true};
-ghost use Prim.Native.Nat.{_+_, _*_, _/_, _≤_, _<_};
+ghost use Prim.Native.Nat.{_+_, _*_, _/_, _≤_};
 ghost use lib.ListN.{length};
 ghost use Rattle.geometry.specs.Answer.{point3};
+ghost use Rattle.questions.specs.Questions.{mostCount};
 ghost use Rattle.questions.specs.Laws.{Sized};
 ghost use Rattle.layers.specs.Layer.{layer};
 ghost use Rattle.layers.specs.Steps.{Spans};
 ghost use Rattle.rules.specs.Piece as piece;
 ghost use Rattle.meshes.specs.Mesh.{facesOf};
+ghost use Rattle.meshes.specs.Sound.{SoundMesh};
 ghost use Rattle.rules.specs.Offers.{scene};
 ghost use Rattle.rules.specs.Draw.{painted, drawn};
 ghost use Rattle.pieces.specs.Answer.{piecesOf};
-ghost use Rattle.raster.specs.Face.{piecesCells, Mesh};
+ghost use Rattle.raster.specs.Face.{piecesCells};
 
 fn draw_pieces(
     pix2tri: &mut [u32],
@@ -97,7 +98,8 @@ pub fn draw_faces(
 )
     requires { ⌜ Sized 1 w h ⌝ }
     requires { ⌜ Spans (layer (now pix2tri) (now pix2depth)) (w * h) ⌝ }
-    requires { ⌜ Mesh (now tri2vtx) (length (now vtx2xyz)) first ⌝ }
+    requires { ⌜ SoundMesh (now tri2vtx) (now vtx2xyz) ⌝ }
+    requires { ⌜ first + length (now tri2vtx) / 3 ≤ mostCount ⌝ }
     ensures { λ _. ⌜ layer (now (pix2tri .exit)) (now (pix2depth .exit)) ≡ drawn (scene (now (m .entry)) (now (vtx2xyz .entry)) w h) (facesOf (now (tri2vtx .entry))) first (layer (now (pix2tri .entry)) (now (pix2depth .entry))) ⌝ }
 {
     let count = tri2vtx.len() / 3;

@@ -1,7 +1,5 @@
-// Drawing faces on a layer: the scan of a piece's closed box, pixel by pixel, one face after the other. `face::draw_faces` is lent to the crate that asks
-// the questions first.
+// Drawing faces on a layer: one face after the other, each with its pieces, each piece by the scan of its box. `face::draw_faces` is lent to the crate that
+// asks the questions first.
 
 pub mod face;
 mod piece;
-mod reach;
-mod scan;

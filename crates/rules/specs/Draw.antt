@@ -1,7 +1,8 @@
 -- Drawing, pixel by pixel.
 use Prim.Native.Nat.{ℕ, _*_}
 use mathlib.Core.List.{List}
-use Rattle.layers.specs.Cell.{Cell, offered}
+use Rattle.offers.specs.Offer.{offered}
+use Rattle.layers.specs.Cell.{Cell}
 use Rattle.layers.specs.Layer.{Layer, at, pixelwise}
 use Rattle.meshes.specs.Mesh.{Face}
 use Rattle.rules.specs.Offers.{Scene, brought}

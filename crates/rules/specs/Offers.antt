@@ -1,11 +1,11 @@
 -- What the faces bring a pixel, and the offers: defined without drawing, whatever the layer holds.
 use Prim.Native.Nat.{ℕ, _/_, _%_}
 use mathlib.Core.Path.{_≡_}
-use mathlib.Core.List.{List, [], _∷_, _++_, List·Memᴰ}
+use mathlib.Core.List.{List, [], _∷_, _++_}
 use lib.Ieee.{Float}
 use Rattle.layers.specs.Cell.{Cell}
-use Rattle.layers.specs.Offers as layers
-use Rattle.layers.specs.Offers.{offersOf, Greatest}
+use Rattle.offers.specs.Offers as any
+use Rattle.offers.specs.Offers.{numbered, offersOf, Greatest}
 use Rattle.meshes.specs.Mesh.{Face, vertexAt}
 use Rattle.rules.specs.Piece.{Piece, pieces}
 use Rattle.rules.specs.Scan.{screened, candidate}
@@ -38,16 +38,12 @@ brings sc f p = piecesBring (sc .width) (sc .height) (facePieces sc f) p
 
 -- what the faces of the list bring pixel p, in list order, the first of them numbered k
 unfoldable pub brought : Scene → List Face → ℕ → ℕ → List Cell
-brought sc fs k p = layers.brought (λ f. brings sc f p) k fs
+brought sc fs k p = any.brought (λ j f. numbered j (brings sc f p)) k fs
 
 -- the offers at pixel p
 unfoldable pub offers : Scene → List Face → ℕ → ℕ → List Cell
 offers sc fs k p = offersOf (brought sc fs k p)
 
--- a pixel with an offer is covered
-unfoldable pub Covered : Scene → List Face → ℕ → Type 0
-Covered sc fs p = (o : Cell) × List·Memᴰ o (offers sc fs 0 p)
-
 -- face number i, the first of greatest depth at pixel p, holds it
 unfoldable pub Holds : Scene → List Face → ℕ → ℕ → Type 0
-Holds sc fs i p = (c : Cell) × Greatest (offers sc fs 0 p) c × (c .number ≡ i)
+Holds sc fs i p = (c : Cell) × Greatest (offers sc fs 0 p) c × (c .payload ≡ i)

@@ -57,11 +57,11 @@ Piece = Triangle (Vec3 Float)
 unfoldable pub whole : Corner Float → Corner Float → Corner Float → List Piece
 whole a b c = triangle (a .p) (b .p) (c .p) ∷ []
 
--- a alone is inside: one piece
+-- a alone is beyond the near plane: one piece
 unfoldable pub onePiece : Corner Float → Corner Float → Corner Float → List Piece
 onePiece a b c = triangle (a .p) (cut floats a b) (cut floats a c) ∷ []
 
--- c alone is outside: two pieces
+-- c alone is before the near plane: two pieces
 unfoldable pub firstPiece : Corner Float → Corner Float → Corner Float → Piece
 firstPiece c a b = triangle (a .p) (b .p) (cut floats a c)
 
@@ -72,36 +72,35 @@ unfoldable pub twoPieces : Corner Float → Corner Float → Corner Float → Li
 twoPieces c a b = firstPiece c a b ∷ secondPiece c a b ∷ []
 
 -- at or beyond the near plane, and between the camera and it; neither where the score is NaN
-unfoldable pub inside : Corner Float → Bool
-inside v = le (floats .zero) (v .c)
+unfoldable pub beyondNear : Corner Float → Bool
+beyondNear v = le (floats .zero) (v .c)
 
-unfoldable pub outside : Corner Float → Bool
-outside v = lt (v .c) (floats .zero)
+unfoldable pub beforeNear : Corner Float → Bool
+beforeNear v = lt (v .c) (floats .zero)
 
-unfoldable pub allInside : Corner Float → Corner Float → Corner Float → Bool
-allInside v0 v1 v2 = inside v0 && (inside v1 && inside v2)
+unfoldable pub allBeyondNear : Corner Float → Corner Float → Corner Float → Bool
+allBeyondNear v0 v1 v2 = beyondNear v0 && (beyondNear v1 && beyondNear v2)
 
-unfoldable pub allOutside : Corner Float → Corner Float → Corner Float → Bool
-allOutside v0 v1 v2 = outside v0 && (outside v1 && outside v2)
+unfoldable pub allBeforeNear : Corner Float → Corner Float → Corner Float → Bool
+allBeforeNear v0 v1 v2 = beforeNear v0 && (beforeNear v1 && beforeNear v2)
 
-unfoldable pub insideBit : Corner Float → ℕ
-insideBit v = cond (inside v) 1 0
+unfoldable pub beyondBit : Corner Float → ℕ
+beyondBit v = cond (beyondNear v) 1 0
 
--- one corner inside: which one
-unfoldable pub clippedToOne : Corner Float → Corner Float → Corner Float → List Piece
-clippedToOne v0 v1 v2 = cond (inside v0) (onePiece v0 v1 v2) (cond (inside v1) (onePiece v1 v0 v2) (onePiece v2 v0 v1))
+-- the lone corner first, in the Rust's order: v0 where l0, else v1 where l1, else v2
+unfoldable pub loneFirst : Bool → Bool → (Corner Float → Corner Float → Corner Float → List Piece) → Corner Float → Corner Float → Corner Float → List Piece
+loneFirst l0 l1 make v0 v1 v2 = cond l0 (make v0 v1 v2) (cond l1 (make v1 v0 v2) (make v2 v0 v1))
 
--- else: which one is outside
-unfoldable pub clippedToTwo : Corner Float → Corner Float → Corner Float → List Piece
-clippedToTwo v0 v1 v2 = cond (outside v0) (twoPieces v0 v1 v2) (cond (outside v1) (twoPieces v1 v0 v2) (twoPieces v2 v0 v1))
-
--- by how many corners are inside
+-- by how many corners are beyond: the lone one beyond gives one piece; else the one before gives two
 unfoldable pub mixed : Corner Float → Corner Float → Corner Float → List Piece
-mixed v0 v1 v2 = cond (eqb (insideBit v0 + insideBit v1 + insideBit v2) 1) (clippedToOne v0 v1 v2) (clippedToTwo v0 v1 v2)
+mixed v0 v1 v2 =
+    cond (eqb (beyondBit v0 + beyondBit v1 + beyondBit v2) 1)
+    (loneFirst (beyondNear v0) (beyondNear v1) onePiece v0 v1 v2)
+    (loneFirst (beforeNear v0) (beforeNear v1) twoPieces v0 v1 v2)
 
 -- all c ≥ 0 draws, all < 0 does not, else one or two pieces
 unfoldable pub clipped : Corner Float → Corner Float → Corner Float → List Piece
-clipped v0 v1 v2 = cond (allInside v0 v1 v2) (whole v0 v1 v2) (cond (allOutside v0 v1 v2) [] (mixed v0 v1 v2))
+clipped v0 v1 v2 = cond (allBeyondNear v0 v1 v2) (whole v0 v1 v2) (cond (allBeforeNear v0 v1 v2) [] (mixed v0 v1 v2))
 
 -- hw·t11 ≥ 0
 unfoldable pub behind : Float → Corner Float → Bool

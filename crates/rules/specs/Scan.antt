@@ -15,9 +15,16 @@ open Arith floats using (add as _⊕_, sub as _⊖_, mul as _⊗_, one)
 infixl 6 _⊕_
 infixl 6 _⊖_
 infixl 7 _⊗_
--- a corner in pixels, with its depth: x runs right, y runs down
+-- columns run right and rows run down
+abbrev pub column : ℕ → Float → Float
+column w x = (x ⊕ one) ⊗ half ⊗ asFloat w
+
+abbrev pub row : ℕ → Float → Float
+row h y = (one ⊖ y) ⊗ half ⊗ asFloat h
+
+-- a corner in pixels, with its depth
 unfoldable pub onScreen : ℕ → ℕ → Vec3 Float → Vec3 Float
-onScreen w h p = vec3 ((p .x ⊕ one) ⊗ half ⊗ asFloat w) ((one ⊖ p .y) ⊗ half ⊗ asFloat h) (p .z)
+onScreen w h p = vec3 (column w (p .x)) (row h (p .y)) (p .z)
 
 unfoldable pub screened : ℕ → ℕ → Piece → Triangle (Vec3 Float)
 screened w h t = triangle (onScreen w h (t .p0)) (onScreen w h (t .p1)) (onScreen w h (t .p2))
@@ -26,7 +33,8 @@ screened w h t = triangle (onScreen w h (t .p0)) (onScreen w h (t .p1)) (onScree
 abbrev pub centreAt : ℕ → ℕ → Vec2 Float
 centreAt ix iy = centreOf (pixel ix iy)
 
--- the least and the greatest of three coordinates
+-- The least and the greatest of three coordinates. Of two, the first stays where either is NaN: so where the first of three is NaN, both ends are, and
+-- no centre lies between them; where another is, it is passed over, and the ends are those of the rest.
 unfoldable pub lower : Float → Float → Float
 lower a b = cond (lt b a) b a
 
@@ -46,7 +54,8 @@ between low high q = le low q && le q high
 unfoldable pub spans : Float → Float → Float → Float → Bool
 spans a b c q = between (least a b c) (greatest a b c) q
 
--- Scan: the pixels of the image whose centre (ix+0.5, iy+0.5) lies in the closed box of the three corners
+-- Scan: the pixels of the image whose centre (ix+0.5, iy+0.5) lies in the closed box of the three corners. The image is no part of the test: wherever it
+-- is used, ix and iy are the column and the row of a pixel number below width times height.
 unfoldable pub scans : Triangle (Vec3 Float) → ℕ → ℕ → Bool
 scans s ix iy =
     spans (s .p0 .x) (s .p1 .x) (s .p2 .x) (centre ix) && spans (s .p0 .y) (s .p1 .y) (s .p2 .y) (centre iy)

@@ -21,8 +21,8 @@ module _ {A : Type 0} (R : Arith A) where
   infixl 7 _⊗_
   infixl 7 _⊘_
   -- "the projected point", and y3: "no zero test"
-  unfoldable pub untested : (ℕ → A) → Vec3 A → Projected A
-  untested m x = over R (row R m 0 x) (row R m 1 x) (row R m 2 x) (row R m 3 x)
+  unfoldable pub projectUntested : (ℕ → A) → Vec3 A → Projected A
+  projectUntested m x = over R (row R m 0 x) (row R m 1 x) (row R m 2 x) (row R m 3 x)
 
   -- "entry 3k+r = (m[4k+r] − p_r·m[4k+3]) / y3", of p_r and y3
   unfoldable pub jacobianEntry : (ℕ → A) → ℕ → ℕ → A → A → A
@@ -36,7 +36,7 @@ module _ {A : Type 0} (R : Arith A) where
 
   -- `jacobian_transform` at the point x
   unfoldable pub jacobian : (ℕ → A) → Vec3 A → Mat3 A
-  jacobian m x = jacobianAt m (untested m x)
+  jacobian m x = jacobianAt m (projectUntested m x)
 
   -- `mult_mat3_col_major` of g and j: "entry k is j[3k]g0+j[3k+1]g1+j[3k+2]g2"
   unfoldable pub multMat3 : Vec3 A → Mat3 A → Vec3 A

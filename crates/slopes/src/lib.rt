@@ -21,8 +21,8 @@ pub struct Mat3 {
 }
 
 // The projected point and its divisor, which may be 0.
-pub fn untested(m: &[f32; 16], x: Vec3) -> Projected
-    ensures { λ r. ⌜ projectedOf r ≡ formula.untested floats (entries (now (m .entry))) (point3 x) ⌝ }
+pub fn project_untested(m: &[f32; 16], x: Vec3) -> Projected
+    ensures { λ r. ⌜ projectedOf r ≡ formula.projectUntested floats (entries (now (m .entry))) (point3 x) ⌝ }
 {
     let y0 = geometry::row(m, 0, x);
     let y1 = geometry::row(m, 1, x);
@@ -59,7 +59,7 @@ fn jacobian_column(m: &[f32; 16], k: usize, p: Projected) -> Vec3
 pub fn jacobian_transform(m: &[f32; 16], x: Vec3) -> Mat3
     ensures { λ r. ⌜ matrixOf r ≡ formula.jacobian floats (entries (now (m .entry))) (point3 x) ⌝ }
 {
-    let p = untested(m, x);
+    let p = project_untested(m, x);
     Mat3 {
         c0: jacobian_column(m, 0, p),
         c1: jacobian_column(m, 1, p),

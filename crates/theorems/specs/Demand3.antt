@@ -13,8 +13,8 @@ use lib.Ieee.{Float, nan}
 use lib.ListN.{length, getD}
 use Rattle.questions.specs.Questions.{allBelow}
 use Rattle.layers.specs.Layer.{Layer, at}
-use Rattle.layers.specs.Offers.{Shows}
-use Rattle.layers.specs.Laws.Greatest.{first-of-greatest}
+use Rattle.offers.specs.Offers.{Shows}
+use Rattle.offers.specs.Laws.Greatest.{first-of-greatest}
 use Rattle.meshes.specs.Mesh.{Face, facesOf}
 use Rattle.meshes.specs.View.{viewOf}
 use Rattle.rules.specs.Offers.{Scene, brought, offers}

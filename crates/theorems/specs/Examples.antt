@@ -5,11 +5,13 @@ use Prim.Native.Nat.{ℕ}
 use mathlib.Core.Path.{_≡_, refl}
 use mathlib.Core.List.{List, [], _∷_}
 use lib.Ieee.{Float, nan, binary32, ofBits, ofInt, add, sub, mul, div, neg, lt, le, eq}
-use Rattle.questions.specs.Questions.{empty, firstNo, sizes, groups, numbers, every, exact}
-use Rattle.layers.specs.Cell.{lowest, offered, pick, exceeds}
-use Rattle.layers.specs.Layer.{Layer, layer, Outcome, outcome, tabulate}
-use Rattle.layers.specs.Offers.{numbered}
-use Rattle.layers.specs.Offers as layers
+use Rattle.lists.specs.Lists.{every}
+use Rattle.questions.specs.Questions.{empty, firstNo, sizes, groups, numbers, exact}
+use Rattle.offers.specs.Offer.{lowest, offered, pick, exceeds}
+use Rattle.lists.specs.Lists.{tabulate}
+use Rattle.layers.specs.Layer.{Layer, layer, Outcome, outcome}
+use Rattle.offers.specs.Offers.{numbered}
+use Rattle.offers.specs.Offers as layers
 use Rattle.meshes.specs.Mesh.{facesOf, vertexAt}
 use Rattle.geometry.specs.Formula.{cross2, areas, total, shares, blend, row, over}
 use Rattle.geometry.specs.Leaf.{finite, weighed, weighedAll, cornerWeights, divided, project}

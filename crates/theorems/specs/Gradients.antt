@@ -15,17 +15,18 @@ use Rattle.meshes.specs.Mesh.{Face}
 use Rattle.meshes.specs.View.{View, viewOf}
 use Rattle.geometry.specs.Vector.{Vec2, Vec3, Weights, Projected, Triangle}
 use Rattle.rays.specs.Space.{Ray}
-use Rattle.layers.specs.Layer.{tabulate}
-use Rattle.values.specs.Pass.{Image, Vertices, span, rayOf}
+use Rattle.lists.specs.Lists.{tabulate}
+use Rattle.lists.specs.Lists.{span}
+use Rattle.values.specs.Pass.{Image, Vertices, rayOf}
 use Rattle.values_bwd.specs.Additions.{toCorners, toXyz, toVal, pixelXyz, pixelVal}
 use Rattle.values_bwd.specs.Bwd.{Sums, incomingAt, xyzAt, valAt, summedOver, bwdCode, interpolatingBwd}
 use Rattle.pixels.specs.Pixel.{centreOf}
 use Rattle.pixels.specs.Edge.{Axis, hedge, vedge, Edge}
-use Rattle.edges.specs.Inside.{contains, projectFace}
+use Rattle.inside.specs.Inside.{contains, projectFace}
 use Rattle.edges.specs.Types.{sight, firstOf, secondOf}
 use Rattle.edges.specs.Gradient.{Signal, dldr}
 use Rattle.tris.specs.Tri.{pointOn}
-use Rattle.tris.specs.Weights.{allInside}
+use Rattle.inside.specs.Inside.{allInside}
 use Rattle.tris.specs.Crossing.{unormal, skipped, leaning, coefficient0, coefficient1}
 use Rattle.edge_bwd.specs.Shares.{Share, share, alone, crossing, crossingOf, together, received, between, sharesAt}
 use Rattle.edge_bwd.specs.Additions.{toVertex, toFace, toPoint, spread, additionsOf, pairAdditions, inTurn, edgeDown, axisAdditions, passAdditions}

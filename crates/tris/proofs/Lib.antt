@@ -1,2 +1,2 @@
 -- laws that the proofs share
-pub mod Corners
+pub mod Projecting

@@ -2,7 +2,7 @@
 use lib.Ieee.{Float, nan}
 use lib.ListN.{getD}
 use Rattle.geometry.specs.Vector.{Vec3, vec3, Projected, projected, Triangle, triangle}
-use Rattle.tris.specs.declared.tri.Tri.{Tri}
+use Rattle.tris.specs.declared.Tri.{Tri}
 
 -- its corners ..
 unfoldable pub cornersIn : Tri → Triangle (Vec3 Float)

@@ -1,5 +1,6 @@
--- What `bwd` works out of one face, and of two that cross.
+-- What `bwd` works out of one face.
 pub mod Weights
-pub mod Crossing
 pub mod Tri
 pub mod Answer
+-- proved of the definitions above
+pub mod Laws

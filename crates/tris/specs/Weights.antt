@@ -1,16 +1,11 @@
--- The weights of a point in a projected face: `bwd`'s inside test, and `barycentric_world`.
+-- The weights of a point in a projected face: `barycentric_world`.
 use mathlib.Core.Bool.{Bool, true, false, _&&_, cond}
 use mathlib.Core.Option.{Option, none, some}
 use lib.Ieee.{Float}
 use Rattle.geometry.specs.Arith.{floats}
 use Rattle.geometry.specs.Vector.{Vec2, Weights, weights, Projected, Triangle}
 use Rattle.geometry.specs.Leaf.{finite, weighedAll}
-use Rattle.edges.specs.Inside.{allFromZero, weightsIn}
-
--- "In `bwd` the weights must all be ≥ 0 and none means outside."
-unfoldable pub allInside : Option (Weights Float) → Bool
-allInside none = false
-allInside (some b) = allFromZero b
+use Rattle.inside.specs.Inside.{weightsIn}
 
 -- `barycentric_world`: each weight over its corner's divisor ..
 unfoldable pub overDivisors : Triangle (Projected Float) → Weights Float → Weights Float

@@ -7,8 +7,8 @@ use native.Mathlib.Omega.{arith}
 use lib.ListN.{length, getD, set, length-set}
 use Rattle.geometry.specs.Arith.{Arith}
 use Rattle.geometry.specs.Formula.{sumOf}
-use Rattle.layers.specs.Layer.{tabulate}
-use Rattle.values.specs.Pass.{span}
+use Rattle.lists.specs.Lists.{tabulate}
+use Rattle.lists.specs.Lists.{span}
 use Rattle.truth.specs.Laws.{Laws}
 use Rattle.truth.specs.Ring.{zero-add as zero-plus}
 use Rattle.truth.specs.Solve.{var, _:+_, _:*_, from, eval, Equal, by-ring}

@@ -9,7 +9,7 @@ use Rattle.geometry.specs.Vector.{Vec3, vec3, Weights, Triangle, triangle}
 use Rattle.geometry.specs.Formula.{sumOf}
 use Rattle.rays.specs.Space.{Ray}
 use Rattle.meshes.specs.Mesh.{Face}
-use Rattle.values.specs.Pass.{span}
+use Rattle.lists.specs.Lists.{span}
 use Rattle.truth.specs.Pixel.{loss, gradientsAt, toValue}
 
 -- what a pass reads: the face that a pixel shows, its ray, and the numbers of `vtx2xyz`, `vtx2val` and `dldw_pix2val` by place

@@ -14,7 +14,8 @@ use Rattle.meshes.specs.Mesh as Mesh
 use Rattle.meshes.specs.Mesh.{Face}
 use Rattle.meshes.specs.View.{View}
 use Rattle.meshes.specs.Sums as Sums
-use Rattle.values.specs.Pass.{Image, Vertices, span, rayOf}
+use Rattle.lists.specs.Lists.{span}
+use Rattle.values.specs.Pass.{Image, Vertices, rayOf}
 use Rattle.values.specs.Interpolate as Interpolate
 use Rattle.values_bwd.specs.Additions as Additions
 use Rattle.values_bwd.specs.Bwd as Bwd

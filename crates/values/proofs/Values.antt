@@ -11,22 +11,23 @@ use lib.Seq.{ext-getD}
 use Rattle.geometry.specs.Arith.{floats}
 use Rattle.geometry.specs.Vector.{Vec3, Weights, Triangle}
 use Rattle.geometry.specs.Formula.{blend}
-use Rattle.questions.specs.Laws.{untouched}
-use Rattle.pixels.specs.Laws.{number-below}
+use Rattle.questions.specs.Questions.{outcome}
+use Rattle.questions.specs.Laws.{call-refused, call-done}
+use Rattle.pixels.specs.Laws.{row-at, column-at}
 use Rattle.rays.specs.Space.{Ray}
 use Rattle.rays.specs.Plane.{planeWeights}
 use Rattle.rays.specs.Pixel.{rayAt, columnAt, rowAt}
 use Rattle.meshes.specs.Mesh.{Face, cornersAt}
-use Rattle.meshes.specs.View.{named, viewOf}
-use Rattle.meshes.specs.Laws.{entry-read}
-use Rattle.layers.specs.Layer.{tabulate}
-use Rattle.layers.specs.Laws.Pixels.{length-tabulate, getD-tabulate, tabulate-same}
-use Rattle.values.specs.Pass.{Image, image, Vertices, valueOf}
-use Rattle.values.specs.Interpolate.{blendOf, valueAt, valueIn, interpolated, interpolateCode, interpolating, outcome}
-use Rattle.values.specs.Steps.{filled}
-use Rattle.values.specs.Laws.Filled.{filled-lent, filled-more, filled-all, length-filled}
-use Rattle.values.specs.Laws.Ranges.{row-below}
-use Rattle.values.specs.Laws.Pixels.{ray-of-pixel, value-of-pixel, run-below}
+use Rattle.meshes.specs.View.{View, named, viewOf}
+use Rattle.lists.specs.Lists.{tabulate}
+use Rattle.lists.specs.Laws.Tables.{length-tabulate, getD-tabulate, tabulate-same}
+use Rattle.lists.specs.Laws.Every.{row-below}
+use Rattle.pixel_rays.specs.Rays.{Image, image, rayOf}
+use Rattle.pixel_rays.specs.Laws.{pixel-seen}
+use Rattle.vertex_values.specs.Pass.{Vertices}
+use Rattle.values.specs.Interpolate.{blendOf, valueAt, valueIn, interpolated, interpolateCode, interpolating}
+use Rattle.values.specs.Filled.{filled}
+use Rattle.values.specs.Laws.{filled-lent, filled-more, filled-all, length-filled}
 
 as-it-was : (xs : List Float) → xs ≡ tabulate (λ j. getD xs j nan) 0 (length xs)
 as-it-was xs =
@@ -46,66 +47,54 @@ module _ (s : Vertices) (o : Option Face) (r : Option (Ray Float)) (old : List F
   pub kept-nowhere : (n : ℕ) → length old ≡ n → r ≡ none → old ≡ tabulate (λ j. valueAt s o r j (getD old j nan)) 0 n
   kept-nowhere n l e = rw (← l, e) (kept o)
 
-  pub blended : (f : Face) (ray : Ray Float) (p : Triangle (Vec3 Float)) (b : Weights Float) (new : List Float) (k n : ℕ) → k ≡ n → o ≡ some f → r ≡ some ray
+  pub blended : (f : Face) (ray : Ray Float) (p : Triangle (Vec3 Float)) (b : Weights Float) (new : List Float) (k : ℕ) → k ≡ s .channels → o ≡ some f → r ≡ some ray
       → p ≡ cornersAt (s .xyz) f → b ≡ planeWeights floats p ray
-      → new ≡ tabulate (λ j. blend floats b (valueOf s (f .v0) j) (valueOf s (f .v1) j) (valueOf s (f .v2) j)) 0 k
-      → new ≡ tabulate (λ j. valueAt s o r j (getD old j nan)) 0 n
+      → new ≡ tabulate (λ j. blend floats b (getD (s .val) (f .v0 * k + j) nan) (getD (s .val) (f .v1 * k + j) nan) (getD (s .val) (f .v2 * k + j) nan)) 0 k
+      → new ≡ tabulate (λ j. valueAt s o r j (getD old j nan)) 0 (s .channels)
   unfolding valueAt blendOf
-  blended f ray p b new k n ek eo er ep eb e = rw (← ek, eo, er, ← ep, ← eb) e
+  blended f ray p b new k ek eo er ep eb e = rw (eo, er, ← ep, ← eb, ← ek) e
 
--- one pixel's run, lent and written
-module _ (w h : ℕ) (m : List Float) (s : Vertices) (tri map : List ℕ) (iy ix : ℕ) (inside : ix < w) (below : iy * w + ix < length map) where
+-- place p * channels + j is channel j of pixel p
+value-of-pixel : (g : Image) (s : Vertices) (v : View) (p j : ℕ) (old : Float) → j < s .channels
+    → valueIn g s v (p * s .channels + j) old ≡ valueAt s (v .at p) (rayOf g p) j old
+unfolding valueIn
+value-of-pixel g s v p j old l = rw (row-at (s .channels) p j l, column-at (s .channels) p j l)
+
+-- one more pixel of a row: its run, lent and written
+module _ (w h : ℕ) (m : List Float) (s : Vertices) (tri map : List ℕ) (iy ix : ℕ) (inside : ix < w) (below : iy * w + ix < length map)
+    (x y : Float) (ex : x ≡ columnAt w ix) (ey : y ≡ rowAt h iy) (cur new : List Float) (k : ℕ) (ek : k ≡ s .channels)
+    (e : new ≡ tabulate (λ j. valueAt s (named tri (getD map (iy * w + ix) 0)) (rayAt m x y) j (getD (take k (drop ((iy * w + ix) * s .channels) cur)) j nan)) 0 (s .channels)) where
   value : ℕ → Float → Float
   value = valueIn (image w h m) s (viewOf tri map)
 
-  value-is : (x y : Float) → x ≡ columnAt w ix → y ≡ rowAt h iy → (j : ℕ) (old : Float) → j < s .channels
-      → valueAt s (named tri (getD map (iy * w + ix) 0)) (rayAt m x y) j old ≡ value ((iy * w + ix) * s .channels + j) old
+  run-filled : take ((iy * w + ix) * s .channels) cur ++ (new ++ drop k (drop ((iy * w + ix) * s .channels) cur)) ≡ filled value ((iy * w + ix) * s .channels) (s .channels) cur
   unfolding value
-  value-is x y ex ey j old l =
-      ap₂ (λ (entry : ℕ) (q : Option (Ray Float)). valueAt s (named tri entry) q j old) (entry-read map (iy * w + ix) below) (ap₂ (rayAt m) ex ey ∙ sym (ray-of-pixel w h m iy ix inside))
-      ∙ sym (value-of-pixel (image w h m) s (viewOf tri map) (iy * w + ix) j old l)
-
-  pub pixel-filled : (x y : Float) (cur new : List Float) (k : ℕ) → k ≡ s .channels → x ≡ columnAt w ix → y ≡ rowAt h iy
-      → new ≡ tabulate (λ j. valueAt s (named tri (getD map (iy * w + ix) 0)) (rayAt m x y) j (getD (take k (drop ((iy * w + ix) * s .channels) cur)) j nan)) 0 (s .channels)
-      → take ((iy * w + ix) * s .channels) cur ++ (new ++ drop k (drop ((iy * w + ix) * s .channels) cur))
-      ≡ filled (valueIn (image w h m) s (viewOf tri map)) ((iy * w + ix) * s .channels) (s .channels) cur
-  unfolding value
-  pixel-filled x y cur new k ek ex ey e =
+  run-filled =
       rw ek
       (filled-lent value ((iy * w + ix) * s .channels) (s .channels) cur new
       (e
       ∙ rw ek
       (tabulate-same _ _ 0 0 (s .channels)
-      (λ j l. value-is x y ex ey (0 + j) (getD (take (s .channels) (drop ((iy * w + ix) * s .channels) cur)) (0 + j) nan) (omega arith)))))
+      (λ j l.
+      pixel-seen w h m tri map iy ix (λ o r. valueAt s o r (0 + j) (getD (take (s .channels) (drop ((iy * w + ix) * s .channels) cur)) (0 + j) nan)) inside below ex ey
+      ∙ sym (value-of-pixel (image w h m) s (viewOf tri map) (iy * w + ix) (0 + j) _ (omega arith))))))
 
-  -- one more pixel of the row
-  module _ (x y : Float) (old cur new : List Float) (k : ℕ) (in-image : iy < h) (whole : length old ≡ w * h * s .channels) (ek : k ≡ s .channels)
-      (ex : x ≡ columnAt w ix) (ey : y ≡ rowAt h iy)
-      (so-far : cur ≡ filled (valueIn (image w h m) s (viewOf tri map)) (iy * w * s .channels) (ix * s .channels) old)
-      (e : new ≡ tabulate (λ j. valueAt s (named tri (getD map (iy * w + ix) 0)) (rayAt m x y) j (getD (take k (drop ((iy * w + ix) * s .channels) cur)) j nan)) 0 (s .channels)) where
-    at-sum : (iy * w + ix) * s .channels ≡ iy * w * s .channels + ix * s .channels
-    at-sum = add-mul (iy * w) ix (s .channels)
-
-    run-fits : (iy * w + ix) * s .channels + s .channels ≤ length old
-    run-fits = omega (arith, run-below (iy * w + ix) (w * h) (s .channels) (number-below inside in-image))
-
-    pub row-more : take ((iy * w + ix) * s .channels) cur ++ (new ++ drop k (drop ((iy * w + ix) * s .channels) cur))
-        ≡ filled (valueIn (image w h m) s (viewOf tri map)) (iy * w * s .channels) ((ix + 1) * s .channels) old
-    unfolding value
-    row-more =
-        let at = at-sum in
-        let next : ix * s .channels + s .channels ≡ (ix + 1) * s .channels = omega arith in
-        let fits : iy * w * s .channels + ix * s .channels ≤ length old = omega (arith, run-fits) in
-        pixel-filled x y cur new k ek ex ey e
-        ∙ ap₂ (λ (a : ℕ) (t : List Float). filled value a (s .channels) t) at so-far
-        ∙ filled-more value (iy * w * s .channels) (ix * s .channels) old fits (s .channels)
-        ∙ ap (λ (n : ℕ). filled value (iy * w * s .channels) n old) next
-
-    pub row-length : length (take ((iy * w + ix) * s .channels) cur ++ (new ++ drop k (drop ((iy * w + ix) * s .channels) cur))) ≡ length old
-    row-length =
-        let next : ix * s .channels + s .channels ≡ (ix + 1) * s .channels = omega arith in
-        let fits : iy * w * s .channels + (ix + 1) * s .channels ≤ length old = omega (arith, at-sum, run-fits) in
-        ap length row-more ∙ length-filled _ (iy * w * s .channels) ((ix + 1) * s .channels) old fits
+  pub row-more : (old : List Float) → (iy * w + ix) * s .channels + s .channels ≤ length old
+      → cur ≡ filled (valueIn (image w h m) s (viewOf tri map)) (iy * w * s .channels) (ix * s .channels) old
+      → (length (take ((iy * w + ix) * s .channels) cur ++ (new ++ drop k (drop ((iy * w + ix) * s .channels) cur))) ≡ length old)
+      × (take ((iy * w + ix) * s .channels) cur ++ (new ++ drop k (drop ((iy * w + ix) * s .channels) cur))
+      ≡ filled (valueIn (image w h m) s (viewOf tri map)) (iy * w * s .channels) ((ix + 1) * s .channels) old)
+  unfolding value
+  row-more old fits so-far =
+      let at : (iy * w + ix) * s .channels ≡ iy * w * s .channels + ix * s .channels = add-mul (iy * w) ix (s .channels) in
+      let next : ix * s .channels + s .channels ≡ (ix + 1) * s .channels = omega arith in
+      let turn =
+      run-filled
+      ∙ ap₂ (λ (a : ℕ) (t : List Float). filled value a (s .channels) t) at so-far
+      ∙ filled-more value (iy * w * s .channels) (ix * s .channels) old (omega arith) (s .channels)
+      ∙ ap (λ (n : ℕ). filled value (iy * w * s .channels) n old) next
+      in
+      (ap length turn ∙ length-filled value (iy * w * s .channels) ((ix + 1) * s .channels) old (omega arith), turn)
 
 -- one more row
 module _ (value : ℕ → Float → Float) (w h c iy : ℕ) (old cur : List Float) (whole : length old ≡ w * h * c) where
@@ -130,9 +119,9 @@ module _ (value : ℕ → Float → Float) (w h c iy : ℕ) (old cur : List Floa
 module _ (g : Image) (s : Vertices) (tri map : List ℕ) (old : List Float) (code : ℕ) where
   pub refused : code ≡ interpolateCode g s tri map old → (code ≡ 0 → ⊥) → outcome code old ≡ interpolating g s tri map old
   unfolding interpolating
-  refused e no0 = rw (← e) (ap (outcome code) (untouched code _ no0))
+  refused e no0 = call-refused _ e no0
 
   pub done : (new : List Float) → code ≡ interpolateCode g s tri map old → code ≡ 0 → new ≡ interpolated g s (viewOf tri map) old
       → outcome 0 new ≡ interpolating g s tri map old
   unfolding interpolating
-  done new e zero0 en = rw (← e, zero0) (ap (outcome 0) en)
+  done new e zero0 made = call-done old e zero0 made

@@ -1,6 +1,7 @@
 // The loops of `interpolate`: each pixel's run of channels is lent to the writer of one pixel.
 ghost use mathlib.Core.Path.{_≡_};
-ghost use Prim.Native.Nat.{_+_, _*_, _≤_, _<_};
+ghost use mathlib.Core.Bool.{true};
+ghost use Prim.Native.Nat.{_+_, _*_, _/_, _≤_, _<_};
 ghost use lib.Ieee.{nan};
 ghost use lib.ListN.{length, getD};
 ghost use Rattle.geometry.specs.Arith.{floats};
@@ -8,21 +9,29 @@ ghost use Rattle.geometry.specs.Formula.{blend};
 ghost use Rattle.rays.specs.Answer.{weightsOf};
 ghost use Rattle.rays.specs.Pixel.{rayAt};
 ghost use Rattle.meshes.specs.View.{named, viewOf};
-ghost use Rattle.layers.specs.Layer.{tabulate};
-ghost use Rattle.values.specs.Pass.{image, vertices};
+ghost use Rattle.lists.specs.Lists.{tabulate};
+ghost use Rattle.questions.specs.Questions.{namesFace};
+ghost use Rattle.meshes.specs.Sound.{SoundMesh, SoundMap};
+ghost use Rattle.pixel_rays.specs.Rays.{image};
+ghost use Rattle.vertex_values.specs.Pass.{vertices};
 ghost use Rattle.values.specs.Interpolate.{valueAt, valueIn, interpolated};
-ghost use Rattle.values.specs.Steps.{filled, Entry, Mesh, Map};
+ghost use Rattle.values.specs.Filled.{filled};
+use pixel_rays::face::Face;
 use rays::PixelRay;
 use rays::Weights;
 
-// A pixel's channels by weights; the corners' channels begin at a0, a1 and a2.
-fn blend_run(val: &mut [f32], b: Weights, vtx2val: &[f32], a0: usize, a1: usize, a2: usize)
-    requires { ⌜ a0 + length (now val) ≤ length (now vtx2val) ⌝ }
-    requires { ⌜ a1 + length (now val) ≤ length (now vtx2val) ⌝ }
-    requires { ⌜ a2 + length (now val) ≤ length (now vtx2val) ⌝ }
-    ensures { λ r. ⌜ now (val .exit) ≡ tabulate (λ j. blend floats (weightsOf b)
-        (getD (now (vtx2val .entry)) (a0 + j) nan) (getD (now (vtx2val .entry)) (a1 + j) nan) (getD (now (vtx2val .entry)) (a2 + j) nan)) 0 (length (now (val .entry))) ⌝ }
+// A pixel's channels: those of the corners of f by their weights.
+fn blend_run(val: &mut [f32], b: Weights, vtx2val: &[f32], f: Face)
+    requires { ⌜ f .v0 * length (now val) + length (now val) ≤ length (now vtx2val) ⌝ }
+    requires { ⌜ f .v1 * length (now val) + length (now val) ≤ length (now vtx2val) ⌝ }
+    requires { ⌜ f .v2 * length (now val) + length (now val) ≤ length (now vtx2val) ⌝ }
+    ensures { λ r. ⌜ now (val .exit) ≡ tabulate (λ j. blend floats (weightsOf b) (getD (now (vtx2val .entry)) (f .v0 * length (now (val .entry)) + j) nan)
+        (getD (now (vtx2val .entry)) (f .v1 * length (now (val .entry)) + j) nan) (getD (now (vtx2val .entry)) (f .v2 * length (now (val .entry)) + j) nan)) 0 (length (now (val .entry))) ⌝ }
 {
+    let c = val.len();
+    let a0 = f.v0 * c;
+    let a1 = f.v1 * c;
+    let a2 = f.v2 * c;
     let b0 = b.b0;
     let b1 = b.b1;
     let b2 = b.b2;
@@ -52,8 +61,9 @@ fn pixel_values(
     vtx2val: &[f32],
     m: &[f32; 16],
 )
-    requires { ⌜ Mesh (vertices (now vtx2xyz) c (now vtx2val)) (now tri2vtx) ⌝ }
-    requires { ⌜ Entry (now tri2vtx) entry ⌝ }
+    requires { ⌜ SoundMesh (now tri2vtx) (now vtx2xyz) ⌝ }
+    requires { ⌜ length (now vtx2val) ≡ length (now vtx2xyz) / 3 * c ⌝ }
+    requires { ⌜ namesFace (length (now tri2vtx) / 3) entry ≡ true ⌝ }
     requires { ⌜ length (now val) ≡ c ⌝ }
     ensures { λ r. ⌜ now (val .exit) ≡ tabulate (λ j. valueAt (vertices (now (vtx2xyz .entry)) c (now (vtx2val .entry)))
         (named (now (tri2vtx .entry)) entry) (rayAt (now (m .entry)) x y) j (getD (now (val .entry)) j nan)) 0 c ⌝ }
@@ -65,9 +75,9 @@ fn pixel_values(
     let PixelRay::Along(r) = found else {
         return;
     };
-    let f = super::face::face_at(tri2vtx, entry as usize);
-    let b = rays::plane_weights(super::face::corners(vtx2xyz, f), r);
-    blend_run(val, b, vtx2val, f.v0 * c, f.v1 * c, f.v2 * c);
+    let f = pixel_rays::face::face_at(tri2vtx, entry as usize);
+    let b = rays::plane_weights(pixel_rays::face::corners(vtx2xyz, f), r);
+    blend_run(val, b, vtx2val, f);
 }
 
 // The values of row iy.
@@ -83,8 +93,8 @@ fn row_values(
     vtx2val: &[f32],
     m: &[f32; 16],
 )
-    requires { ⌜ Mesh (vertices (now vtx2xyz) c (now vtx2val)) (now tri2vtx) ⌝ }
-    requires { ⌜ Map w h (now tri2vtx) (now pix2tri) ⌝ }
+    requires { ⌜ SoundMap (now tri2vtx) (now vtx2xyz) (now pix2tri) w h ⌝ }
+    requires { ⌜ length (now vtx2val) ≡ length (now vtx2xyz) / 3 * c ⌝ }
     requires { ⌜ length (now pix2val) ≡ w * h * c ⌝ }
     requires { ⌜ iy < h ⌝ }
     ensures { λ r. ⌜ now (pix2val .exit) ≡ filled (valueIn (image w h (now (m .entry))) (vertices (now (vtx2xyz .entry)) c (now (vtx2val .entry)))
@@ -125,8 +135,8 @@ pub fn image_values(
     vtx2val: &[f32],
     m: &[f32; 16],
 )
-    requires { ⌜ Mesh (vertices (now vtx2xyz) c (now vtx2val)) (now tri2vtx) ⌝ }
-    requires { ⌜ Map w h (now tri2vtx) (now pix2tri) ⌝ }
+    requires { ⌜ SoundMap (now tri2vtx) (now vtx2xyz) (now pix2tri) w h ⌝ }
+    requires { ⌜ length (now vtx2val) ≡ length (now vtx2xyz) / 3 * c ⌝ }
     requires { ⌜ length (now pix2val) ≡ w * h * c ⌝ }
     ensures { λ r. ⌜ now (pix2val .exit) ≡ interpolated (image w h (now (m .entry))) (vertices (now (vtx2xyz .entry)) c (now (vtx2val .entry)))
         (viewOf (now (tri2vtx .entry)) (now (pix2tri .entry))) (now (pix2val .entry)) ⌝ }

@@ -1,44 +1,11 @@
-// Values: the public call `interpolate`. What it shares with `interpolate_bwd` is in `ask` and `face`.
+// Values: the public call `interpolate`.
 ghost use mathlib.Core.Path.{_≡_};
-ghost use Rattle.values.specs.Pass.{image, vertices};
-ghost use Rattle.values.specs.Interpolate.{outcome, interpolateCode, interpolating};
+ghost use Rattle.questions.specs.Questions.{outcome};
+ghost use Rattle.pixel_rays.specs.Rays.{image};
+ghost use Rattle.vertex_values.specs.Pass.{vertices};
+ghost use Rattle.values.specs.Interpolate.{interpolating};
 
-pub mod ask;
-pub mod face;
 mod fill;
-
-// The questions of `interpolate`.
-fn interpolate_code(
-    w: usize,
-    h: usize,
-    pix2tri: &[u32],
-    tri2vtx: &[u32],
-    vtx2xyz: &[f32],
-    c: usize,
-    vtx2val: &[f32],
-    m: &[f32; 16],
-    pix2val: &[f32],
-) -> u32
-    ensures { λ r. ⌜ r ≡ interpolateCode (image w h (now (m .entry))) (vertices (now (vtx2xyz .entry)) c (now (vtx2val .entry)))
-        (now (tri2vtx .entry)) (now (pix2tri .entry)) (now (pix2val .entry)) ⌝ }
-{
-    let code = questions::opening_code(w, h, c, tri2vtx.len(), vtx2xyz.len());
-    if code != 0 {
-        return code;
-    }
-    if !ask::exact_ok(
-        w,
-        h,
-        c,
-        vtx2xyz.len() / 3,
-        pix2tri.len(),
-        vtx2val.len(),
-        pix2val.len(),
-    ) {
-        return 4;
-    }
-    ask::closing_code(w, h, m, vtx2xyz.len() / 3, tri2vtx, pix2tri)
-}
 
 // At every pixel that shows a face, the values of its corners by the weights of the point where the pixel's ray meets the face's plane.
 pub fn interpolate(
@@ -56,7 +23,7 @@ pub fn interpolate(
         ≡ interpolating (image «img_w» «img_h» (now («transform_ndc2world» .entry))) (vertices (now (vtx2xyz .entry)) «num_vdim» (now (vtx2val .entry)))
         (now (tri2vtx .entry)) (now (pix2tri .entry)) (now (pix2val .entry)) ⌝ }
 {
-    let code = interpolate_code(
+    let code = vertex_values::pass_code(
         img_w,
         img_h,
         pix2tri,
@@ -65,7 +32,8 @@ pub fn interpolate(
         num_vdim,
         vtx2val,
         transform_ndc2world,
-        pix2val,
+        pix2val.len(),
+        true,
     );
     if code != 0 {
         return code;

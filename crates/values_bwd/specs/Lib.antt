@@ -1,6 +1,4 @@
 -- 01, "Values and their backward pass": the outcome of `interpolate_bwd`.
-pub mod Gather
-pub mod Additions
 pub mod Bwd
 -- proved of the definitions above, for the proofs of this crate and of those above it
 pub mod Laws

@@ -1,12 +1,70 @@
 // The backward pass of values: the public call `interpolate_bwd`.
 ghost use mathlib.Core.Path.{_≡_};
-ghost use Rattle.values.specs.Pass.{image, vertices};
-ghost use Rattle.values_bwd.specs.Bwd.{sums, outcome, bwdCode, interpolatingBwd};
+ghost use mathlib.Core.Bool.{_&&_};
+ghost use Prim.Native.Nat.{_*_, _/_, _<_};
+ghost use lib.ListN.{length};
+ghost use Rattle.questions.specs.Questions.{exact, outcome};
+ghost use Rattle.meshes.specs.Sound.{SoundMap};
+ghost use Rattle.meshes.specs.View.{viewOf};
+ghost use Rattle.pixel_rays.specs.Rays.{image};
+ghost use Rattle.vertex_values.specs.Pass.{vertices};
+ghost use Rattle.pixel_bwd.specs.Additions.{sums};
+ghost use Rattle.values_bwd.specs.Bwd.{summedOver, interpolatingBwd};
 
-mod scatter;
+// The pixels of row iy.
+fn row_bwd(
+    dxyz: &mut [f32],
+    dval: &mut [f32],
+    w: usize,
+    h: usize,
+    iy: usize,
+    pix2tri: &[u32],
+    tri2vtx: &[u32],
+    vtx2xyz: &[f32],
+    c: usize,
+    vtx2val: &[f32],
+    m: &[f32; 16],
+    dldw: &[f32],
+)
+    requires { ⌜ SoundMap (now tri2vtx) (now vtx2xyz) (now pix2tri) w h ⌝ }
+    requires { ⌜ length (now vtx2val) ≡ length (now vtx2xyz) / 3 * c ⌝ }
+    requires { ⌜ length (now dxyz) ≡ length (now vtx2xyz) ⌝ }
+    requires { ⌜ length (now dval) ≡ length (now vtx2val) ⌝ }
+    requires { ⌜ length (now dldw) ≡ w * h * c ⌝ }
+    requires { ⌜ iy < h ⌝ }
+    ensures { λ r. ⌜ sums (now (dxyz .exit)) (now (dval .exit))
+        ≡ summedOver (image w h (now (m .entry))) (vertices (now (vtx2xyz .entry)) c (now (vtx2val .entry)))
+        (viewOf (now (tri2vtx .entry)) (now (pix2tri .entry))) (now (dldw .entry)) (iy * w) w (sums (now (dxyz .entry)) (now (dval .entry))) ⌝ }
+{
+    let y = rays::row_at(h, iy);
+    let base = iy * w;
+    let mut ix = 0;
+    while ix < w {
+        let x = rays::column_at(w, ix);
+        let p = base + ix;
+        let at = p * c;
+        pixel_bwd::add_pixel(
+            dxyz,
+            dval,
+            pix2tri[p],
+            x,
+            y,
+            tri2vtx,
+            vtx2xyz,
+            c,
+            vtx2val,
+            m,
+            dldw,
+            at,
+        );
+        ix += 1;
+    }
+}
 
-// The questions of `interpolate_bwd`.
-fn interpolate_bwd_code(
+// The pixels of every row.
+fn image_bwd(
+    dxyz: &mut [f32],
+    dval: &mut [f32],
     w: usize,
     h: usize,
     pix2tri: &[u32],
@@ -16,34 +74,44 @@ fn interpolate_bwd_code(
     vtx2val: &[f32],
     m: &[f32; 16],
     dldw: &[f32],
-    dxyz: &[f32],
-    dval: &[f32],
-) -> u32
-    ensures { λ r. ⌜ r ≡ bwdCode (image w h (now (m .entry))) (vertices (now (vtx2xyz .entry)) c (now (vtx2val .entry)))
-        (now (tri2vtx .entry)) (now (pix2tri .entry)) (now (dldw .entry)) (sums (now (dxyz .entry)) (now (dval .entry))) ⌝ }
+)
+    requires { ⌜ SoundMap (now tri2vtx) (now vtx2xyz) (now pix2tri) w h ⌝ }
+    requires { ⌜ length (now vtx2val) ≡ length (now vtx2xyz) / 3 * c ⌝ }
+    requires { ⌜ length (now dxyz) ≡ length (now vtx2xyz) ⌝ }
+    requires { ⌜ length (now dval) ≡ length (now vtx2val) ⌝ }
+    requires { ⌜ length (now dldw) ≡ w * h * c ⌝ }
+    ensures { λ r. ⌜ sums (now (dxyz .exit)) (now (dval .exit))
+        ≡ summedOver (image w h (now (m .entry))) (vertices (now (vtx2xyz .entry)) c (now (vtx2val .entry)))
+        (viewOf (now (tri2vtx .entry)) (now (pix2tri .entry))) (now (dldw .entry)) 0 (w * h) (sums (now (dxyz .entry)) (now (dval .entry))) ⌝ }
 {
-    let code = questions::opening_code(w, h, c, tri2vtx.len(), vtx2xyz.len());
-    if code != 0 {
-        return code;
+    let mut iy = 0;
+    while iy < h {
+        row_bwd(
+            dxyz,
+            dval,
+            w,
+            h,
+            iy,
+            pix2tri,
+            tri2vtx,
+            vtx2xyz,
+            c,
+            vtx2val,
+            m,
+            dldw,
+        );
+        iy += 1;
     }
-    if !values::ask::exact_ok(
-        w,
-        h,
-        c,
-        vtx2xyz.len() / 3,
-        pix2tri.len(),
-        vtx2val.len(),
-        dldw.len(),
-    ) {
-        return 4;
+}
+
+// Question 4 of the accumulators, by lengths: as long as `vtx2xyz` and `vtx2val`.
+fn sums_ok(xyz: usize, dxyz: usize, val: usize, dval: usize) -> bool
+    ensures { λ r. ⌜ r ≡ exact xyz dxyz && exact val dval ⌝ }
+{
+    if dxyz != xyz {
+        return false;
     }
-    if dxyz.len() != vtx2xyz.len() {
-        return 4;
-    }
-    if dval.len() != vtx2val.len() {
-        return 4;
-    }
-    values::ask::closing_code(w, h, m, vtx2xyz.len() / 3, tri2vtx, pix2tri)
+    dval == val
 }
 
 // At every pixel that shows a face, in rising number, the gradients of its channels go to the face's vertices: to their coordinates and to their values.
@@ -60,11 +128,17 @@ pub fn interpolate_bwd(
     dldw_vtx2xyz: &mut [f32],
     dldw_vtx2val: &mut [f32],
 ) -> u32
-    ensures { λ r. ⌜ outcome r (now («dldw_vtx2xyz» .exit)) (now («dldw_vtx2val» .exit))
+    ensures { λ r. ⌜ outcome r (sums (now («dldw_vtx2xyz» .exit)) (now («dldw_vtx2val» .exit)))
         ≡ interpolatingBwd (image «img_w» «img_h» (now («transform_ndc2world» .entry))) (vertices (now (vtx2xyz .entry)) «num_vdim» (now (vtx2val .entry)))
         (now (tri2vtx .entry)) (now (pix2tri .entry)) (now («dldw_pix2val» .entry)) (sums (now («dldw_vtx2xyz» .entry)) (now («dldw_vtx2val» .entry))) ⌝ }
 {
-    let code = interpolate_bwd_code(
+    let exact = sums_ok(
+        vtx2xyz.len(),
+        dldw_vtx2xyz.len(),
+        vtx2val.len(),
+        dldw_vtx2val.len(),
+    );
+    let code = vertex_values::pass_code(
         img_w,
         img_h,
         pix2tri,
@@ -73,14 +147,13 @@ pub fn interpolate_bwd(
         num_vdim,
         vtx2val,
         transform_ndc2world,
-        dldw_pix2val,
-        dldw_vtx2xyz,
-        dldw_vtx2val,
+        dldw_pix2val.len(),
+        exact,
     );
     if code != 0 {
         return code;
     }
-    scatter::image_bwd(
+    image_bwd(
         dldw_vtx2xyz,
         dldw_vtx2val,
         img_w,

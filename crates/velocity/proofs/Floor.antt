@@ -1,5 +1,5 @@
 -- The cell of a coordinate, and what the code's comparisons and its truncation say of it.
-use Prim.Native.Nat.{ℕ, _+_, _*_, min, _≤_}
+use Prim.Native.Nat.{ℕ, _+_, _*_, _-_, min, _≤_}
 use mathlib.Core.Path.{_≡_, refl, sym, _∙_}
 use mathlib.Core.Bool.{Bool, true, false, false≢true}
 use native.Mathlib.Nat.{min-eq-right, min-le-right, zero-min, le-div-iff-mul-le}
@@ -9,18 +9,29 @@ use lib.Dec.{T}
 use lib.IntN.{pos}
 use lib.Ieee.{Float, nan, inf, fin, up, down, lt, toUnsigned}
 use lib.Ieee.Fits.{down-pos}
-use Rattle.velocity.specs.Cell.{cell}
+use Rattle.geometry.specs.Arith.{floats}
+use Rattle.pixels.specs.Pixel.{asFloat}
+use Rattle.velocity.specs.Cell.{cell, clampUnit, stand, standFrom, standAt}
 
 pub told : {b : Bool} → b ≡ true → T b
 told e = rw e tt
 
-pub cell-most : (most : ℕ) (x : Float) → cell most x ≤ most
+held : (most : ℕ) (x : Float) → cell most x ≤ most
 unfolding cell
-cell-most most nan = omega arith
-cell-most most (inf true) = omega arith
-cell-most most (inf false) = omega arith
-cell-most most (fin true m e) = omega arith
-cell-most most (fin false m e) = min-le-right _ most
+held most nan = omega arith
+held most (inf true) = omega arith
+held most (inf false) = omega arith
+held most (fin true m e) = omega arith
+held most (fin false m e) = min-le-right _ most
+
+pub cell-most : (most : ℕ) (x : Float) {low : ℕ} → low ≡ cell most x → low ≤ most
+cell-most most x e = rw e (held most x)
+
+-- a coordinate's place, by its parts
+pub stands : (size places : ℕ) (x : Float) {low high : ℕ} {t : Float} → low ≡ cell (size - 2) x → high ≡ min (low + 1) (places - 1) → t ≡ clampUnit (floats .sub x (asFloat low))
+    → stand low high t ≡ standAt size places x
+unfolding standAt standFrom
+stands size places x e h t = rw (← e, h, t)
 
 -- not above −1, or NaN
 pub cell-low : (most : ℕ) (x : Float) → lt (fin true 1 (pos 0)) x ≡ false → 0 ≡ cell most x

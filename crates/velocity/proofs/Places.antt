@@ -6,7 +6,7 @@ use native.Mathlib.Omega.{arith}
 use borrow.Author.Tests.{eq-eqb, ne-eqb}
 use lib.Ieee.{Float, nan}
 use lib.ListN.{getD, set, length}
-use Rattle.layers.specs.Laws.Pixels.{stored, stored-more}
+use Rattle.lists.specs.Laws.Tables.{stored, stored-more}
 use Rattle.geometry.specs.Arith.{floats}
 use Rattle.geometry.specs.Vector.{vec2}
 use Rattle.pixels.specs.Edge.{hedge, vedge}

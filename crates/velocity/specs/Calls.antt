@@ -4,30 +4,19 @@ use mathlib.Core.Bool.{_&&_}
 use mathlib.Core.List.{List, [], _∷_}
 use lib.ListN.{length}
 use lib.Ieee.{Float}
-use Rattle.questions.specs.Questions.{ask, firstNo, unlessRefused, sizes, groups, exact}
-use Rattle.layers.specs.Layer.{tabulate}
+use Rattle.questions.specs.Questions.{ask, firstNo, Outcome, answer, sizes, groups, exact, mostCount}
+use Rattle.lists.specs.Lists.{tabulate}
 use Rattle.pixels.specs.Edge.{hedge, vedge, edgeCount}
 use Rattle.velocity.specs.Grid.{velocityAt}
 
 unfoldable pub velocityCode : ℕ → ℕ → List Float → List Float → List Float → List Float → ℕ
 velocityCode w h hedge2vy vedge2vx xy velo =
     firstNo (ask 1 (sizes 2 w h)
-    ∷ ask 3 (groups 2 (length xy))
+    ∷ ask 3 (groups 2 mostCount (length xy))
     ∷ ask 4 (exact (edgeCount hedge w h) (length hedge2vy) && (exact (edgeCount vedge w h) (length vedge2vx) && exact (length xy) (length velo)))
     ∷ [])
 
 -- the code, and `vtx2velo` afterwards
-pub record Outcome : Type 0 where
-  pub code : ℕ
-  pub velo : List Float
-
-abbrev pub outcome : ℕ → List Float → Outcome
-outcome code velo = record { code = code; velo = velo }
-
--- a refused call leaves it as it was
-unfoldable pub answer : ℕ → List Float → List Float → Outcome
-answer code before after = outcome code (unlessRefused code before after)
-
-unfoldable pub velocities : ℕ → ℕ → List Float → List Float → List Float → List Float → Outcome
+unfoldable pub velocities : ℕ → ℕ → List Float → List Float → List Float → List Float → Outcome (List Float)
 velocities w h hedge2vy vedge2vx xy velo =
     answer (velocityCode w h hedge2vy vedge2vx xy velo) velo (tabulate (velocityAt w h hedge2vy vedge2vx xy) 0 (length xy))

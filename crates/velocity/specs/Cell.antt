@@ -1,7 +1,6 @@
 -- Where a coordinate stands in a row of grid places: its cell, and the fraction of the way to the next place.
-use Prim.Native.Nat.{ℕ, _+_, _-_, _*_, _/_}
+use Prim.Native.Nat.{ℕ, _+_, _-_, _*_, _/_, min}
 use mathlib.Core.Bool.{cond}
-use Prim.Native.Nat.{min}
 use lib.Ieee.{Float, nan, inf, fin, up, down, lt}
 use Rattle.geometry.specs.Arith.{floats}
 use Rattle.pixels.specs.Pixel.{asFloat}
@@ -22,8 +21,11 @@ pub record Stand : Type 0 where
   pub high : ℕ
   pub t : Float
 
+abbrev pub stand : ℕ → ℕ → Float → Stand
+stand low high t = record { low = low; high = high; t = t }
+
 unfoldable pub standFrom : ℕ → Float → ℕ → Stand
-standFrom places x i = record { low = i; high = min (i + 1) (places - 1); t = clampUnit (floats .sub x (asFloat i)) }
+standFrom places x i = stand i (min (i + 1) (places - 1)) (clampUnit (floats .sub x (asFloat i)))
 
 -- the coordinate x along a side of `size` pixels, on which the grid has `places`
 unfoldable pub standAt : ℕ → ℕ → Float → Stand

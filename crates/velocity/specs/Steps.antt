@@ -1,10 +1,10 @@
 -- What the steps of the call ask and promise.
 use Prim.Native.Nat.{ℕ, _<_}
-use Rattle.velocity.specs.Cell.{Stand}
+use Rattle.velocity.specs.Cell.{Stand, stand}
 use Rattle.velocity.specs.declared.Stand as code
 
 abbrev pub standOf : code.Stand → Stand
-standOf a = record { low = a .low; high = a .high; t = a .t }
+standOf a = stand (a .low) (a .high) (a .t)
 
 -- both places are below n
 pub record Below (n low high : ℕ) : Type 0 where

@@ -5,12 +5,13 @@ ghost use Prim.Native.Nat.{_+_, _*_, _/_, _≤_};
 ghost use lib.ListN.{length};
 ghost use Rattle.geometry.specs.Arith.{floats};
 ghost use Rattle.geometry.specs.Vector.{vec2};
-ghost use Rattle.layers.specs.Layer.{tabulate};
+ghost use Rattle.lists.specs.Lists.{tabulate};
+ghost use Rattle.questions.specs.Questions.{outcome};
 ghost use Rattle.questions.specs.Laws.{Sized};
 ghost use Rattle.pixels.specs.Edge.{axis, edgeCount, hedge, vedge};
 ghost use Rattle.velocity.specs.Cell as spec;
 ghost use Rattle.velocity.specs.Grid as grid;
-ghost use Rattle.velocity.specs.Calls.{velocityCode, velocities, outcome};
+ghost use Rattle.velocity.specs.Calls.{velocityCode, velocities};
 ghost use Rattle.velocity.specs.Steps.{standOf, Below};
 
 // Two neighbouring grid places and the fraction of the way between them.
@@ -140,7 +141,7 @@ fn velocity_code(
     if !questions::sizes_ok(2, img_w, img_h) {
         return 1;
     }
-    if !questions::groups_ok(2, vtx2xy.len()) {
+    if !questions::groups_ok(2, questions::MOST_COUNT, vtx2xy.len()) {
         return 3;
     }
     if hedge2vy.len() != pixels::edge_count(img_w, img_h, 0, 1) {

@@ -12,6 +12,7 @@ fn main() {
 
 #[cfg(listed)]
 mod listed {
+    use comparison::crossing::unlike_and_crossing;
     use comparison::pass::Pass;
     use comparison::random::Random;
     use comparison::reference;
@@ -33,22 +34,52 @@ mod listed {
         m
     }
 
-    /// A drawing of `count` faces, with values and gradients.
-    fn drawn(count: usize) -> Pass {
+    /// Faces and vertices.
+    type Mesh = (Vec<u32>, Vec<f32>);
+
+    /// So many faces, each by itself, anywhere in the image; its corners lie up to `reach` from its place, and their depths
+    /// up to `tilt` from its own.
+    fn scattered(count: usize, reach: f32, tilt: f32) -> Mesh {
         let random = &mut Random::new(count as u64);
         let mut vtx2xyz = Vec::new();
         for _ in 0..count {
             let centre = [random.between(-1.0, 1.0), random.between(-1.0, 1.0)];
             let z = random.between(-0.9, 0.9);
             for _ in 0..3 {
-                let [x, y] = centre.map(|c| c + random.between(-0.1, 0.1));
-                vtx2xyz.extend([x, y, z + random.between(-0.05, 0.05)]);
+                let [x, y] = centre.map(|c| c + random.between(-reach, reach));
+                vtx2xyz.extend([x, y, z + random.between(-tilt, tilt)]);
             }
         }
+        ((0..3 * count as u32).collect(), vtx2xyz)
+    }
+
+    /// A wavy sheet of `cells` by `cells` cells of two faces, neighbours sharing their corners, with a margin around it.
+    fn sheet(cells: u32) -> Mesh {
+        let corners = cells + 1;
+        let mut vtx2xyz = Vec::new();
+        for row in 0..corners {
+            for column in 0..corners {
+                let [x, y] = [column, row].map(|k| 1.8 * k as f32 / cells as f32 - 0.9);
+                vtx2xyz.extend([x, y, 0.3 * (7.0 * x).sin() * (5.0 * y).cos()]);
+            }
+        }
+        let mut tri2vtx = Vec::new();
+        for row in 0..cells {
+            for column in 0..cells {
+                let at = row * corners + column;
+                tri2vtx.extend([at, at + 1, at + corners + 1]);
+                tri2vtx.extend([at, at + corners + 1, at + corners]);
+            }
+        }
+        (tri2vtx, vtx2xyz)
+    }
+
+    /// A drawing of the mesh, with values and gradients.
+    fn drawn((tri2vtx, vtx2xyz): Mesh) -> Pass {
         let scene = Scene {
             pix2tri: vec![EMPTY; SIDE * SIDE],
             pix2depth: vec![f32::NEG_INFINITY; SIDE * SIDE],
-            tri2vtx: (0..3 * count as u32).collect(),
+            tri2vtx,
             vtx2xyz,
             img_w: SIDE,
             img_h: SIDE,
@@ -56,20 +87,22 @@ mod listed {
             first: 0,
         };
         let pix2tri = reference::drawn(&scene).0;
+        let random = &mut Random::new(1);
         let mut floats =
             |n: usize| -> Vec<f32> { (0..n).map(|_| random.between(-1.0, 1.0)).collect() };
         let (pixels, edges) = (SIDE * SIDE * CHANNELS, SIDE * (SIDE - 1));
+        let vertices = scene.vtx2xyz.len() / 3;
         Pass {
             img_w: SIDE,
             img_h: SIDE,
             pix2tri,
             tri2vtx: scene.tri2vtx,
             num_vdim: CHANNELS,
-            vtx2val: floats(3 * count * CHANNELS),
+            vtx2val: floats(vertices * CHANNELS),
             pix2val: floats(pixels),
             dldw_pix2val: floats(pixels),
-            dldw_vtx2xyz: vec![0.0; 9 * count],
-            dldw_vtx2val: vec![0.0; 3 * count * CHANNELS],
+            dldw_vtx2xyz: vec![0.0; 3 * vertices],
+            dldw_vtx2val: vec![0.0; vertices * CHANNELS],
             vtx2xyz: scene.vtx2xyz,
             hedge2type: vec![0; edges],
             hedge2dldr: vec![0.0; edges],
@@ -215,7 +248,7 @@ mod listed {
     }
 
     fn listed_bwd(p: &mut Pass) {
-        comparison::edgegrad_own_points::bwd(
+        comparison::edgegrad_by_the_rules::bwd(
             p.tri2vtx.as_chunks::<3>().0,
             p.vtx2xyz.as_chunks::<3>().0,
             p.dldw_vtx2xyz.as_chunks_mut::<3>().0,
@@ -255,8 +288,15 @@ mod listed {
         edges.fill_with(|| random.between(-1.0, 1.0));
     }
 
+    /// `bwd` over a map, by how many of its pairs of neighbours are unlike and cross.
+    fn beside_bwd(name: &str, pass: &Pass) {
+        let [unlike, crossing] = unlike_and_crossing(pass);
+        beside(name, pass, bwd, listed_bwd);
+        println!("{:<28}{crossing} of {unlike} unequal pairs cross", "");
+    }
+
     pub fn main() {
-        let pass = drawn(2_000);
+        let pass = drawn(scattered(2_000, 0.1, 0.05));
         beside("interpolate", &pass, interpolate, listed_interpolate);
         beside(
             "interpolate_bwd",
@@ -265,8 +305,10 @@ mod listed {
             listed_interpolate_bwd,
         );
         beside("edge_gradient_and_type", &pass, edges, listed_edges);
-        beside("bwd", &pass, bwd, listed_bwd);
-        let points = with_points(drawn(1));
+        beside_bwd("bwd", &pass);
+        beside_bwd("bwd, faces that cross", &drawn(scattered(2_000, 0.5, 0.9)));
+        beside_bwd("bwd, a mesh", &drawn(sheet(45)));
+        let points = with_points(drawn(scattered(1, 0.1, 0.05)));
         beside(
             "interpolate_from_edges",
             &points,

@@ -47,21 +47,34 @@ fn crosses(pass: &Pass, [first, second]: [usize; 2]) -> bool {
     is_inside(corners(b), centre(first)) && is_inside(corners(a), centre(second))
 }
 
+/// Each pixel with the one below it and the one to its right.
+fn pairs(pass: &Pass) -> impl Iterator<Item = [usize; 2]> + '_ {
+    let (w, pixels) = (pass.img_w, pass.pix2tri.len());
+    (0..pixels).flat_map(move |pixel| {
+        let below = (pixel + w < pixels).then_some([pixel, pixel + w]);
+        let beside = (pixel % w + 1 < w).then_some([pixel, pixel + 1]);
+        [below, beside].into_iter().flatten()
+    })
+}
+
 /// The vertices of the second face, the lower or the right one, of each pair that crosses.
 pub fn second_corners(pass: &Pass) -> Vec<bool> {
     let mut named = vec![false; pass.vtx2xyz.len() / 3];
-    let (w, pixels) = (pass.img_w, pass.pix2tri.len());
-    for pixel in 0..pixels {
-        let below = (pixel + w < pixels).then_some(pixel + w);
-        let beside = (pixel % w + 1 < w).then_some(pixel + 1);
-        for second in [below, beside].into_iter().flatten() {
-            if crosses(pass, [pixel, second]) {
-                let face = 3 * pass.pix2tri[second] as usize;
-                pass.tri2vtx[face..face + 3]
-                    .iter()
-                    .for_each(|&v| named[v as usize] = true);
-            }
-        }
+    for [_, second] in pairs(pass).filter(|&pair| crosses(pass, pair)) {
+        let face = 3 * pass.pix2tri[second] as usize;
+        pass.tri2vtx[face..face + 3]
+            .iter()
+            .for_each(|&v| named[v as usize] = true);
     }
     named
+}
+
+/// How many pairs name unlike entries, and how many of those cross.
+pub fn unlike_and_crossing(pass: &Pass) -> [usize; 2] {
+    let unlike = |&[first, second]: &[usize; 2]| pass.pix2tri[first] != pass.pix2tri[second];
+    let crossing = |&pair: &[usize; 2]| crosses(pass, pair);
+    [
+        pairs(pass).filter(unlike).count(),
+        pairs(pass).filter(crossing).count(),
+    ]
 }

@@ -1,5 +1,5 @@
-//! The library's calls beside the listed Rust, which is built unchanged over stand-ins for the crates that it
-//! calls, and beside the questions of 01, read into Rust a second time.
+//! The library's calls beside the listed Rust, which is built over stand-ins for the crates that it calls, unchanged
+//! and changed where 01 decides otherwise, and beside the questions of 01, read into Rust a second time.
 
 #[cfg(listed)]
 include!(concat!(env!("OUT_DIR"), "/listed.rs"));

@@ -89,7 +89,7 @@ pub fn edge_gradient_and_type(pass: &Pass) -> Option<([Vec<u8>; 2], [Vec<f32>; 2
     })
 }
 
-/// `bwd` of the unchanged file, or of the one in which each share takes its point from its own triangle.
+/// `bwd` of the unchanged file, or of the one that is changed where 01 decides otherwise.
 type Bwd = fn(
     &[[u32; 3]],
     &[[f32; 3]],
@@ -120,9 +120,9 @@ fn bwd_by(bwd: Bwd, pass: &Pass) -> Option<Vec<f32>> {
     })
 }
 
-/// `dldw_vtx2xyz` afterwards, each share's point from its own triangle.
+/// `dldw_vtx2xyz` afterwards, each share's point from its own triangle, and hypot by 01's rule.
 pub fn bwd(pass: &Pass) -> Option<Vec<f32>> {
-    bwd_by(crate::edgegrad_own_points::bwd, pass)
+    bwd_by(crate::edgegrad_by_the_rules::bwd, pass)
 }
 
 /// The same by the file as it is listed.

@@ -239,8 +239,8 @@ fn edges_backward_refused() {
     seen.is_all_of(&[0, 1, 2, 3, 4, 6, 7, 8, 9]);
 }
 
-/// Beside the listed file with the one line changed; question 9 is asked of that file itself, and is no exactly where it
-/// would panic.
+/// Beside the listed file, changed where 01 decides otherwise; question 9 is asked of that file itself, and is no
+/// exactly where it would panic.
 #[cfg(listed)]
 #[test]
 fn edges_backward() {

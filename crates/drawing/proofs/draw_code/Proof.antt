@@ -1,20 +1,15 @@
 -- `drawing::draw_code`: the first question that is answered no.
 use borrow.Author.Needs.{needs}
-use Rattle.questions.specs.Laws.{sized, said-no, said-yes, refuses, passes, ends}
+use Rattle.lists.specs.Laws.Tests.{said-no, said-yes}
+use Rattle.questions.specs.Laws.{sized, refuses, passes, ends}
 use Rattle.rules.specs.Calls.{drawCode}
 use Rattle.drawing.proofs.draw_code.Statement.{statement}
 use Rattle.drawing.proofs.draw_code.Tie as tie
-
-sizes-ok-requires : tie.Need-sizes-ok-requires
-sizes-ok-requires c κs = search needs
 
 returns : tie.Need-returns
 unfolding drawCode
 returns c =
     refuses 1 _ (said-no (c .before .sizes-ok .ensures) (c .if1 .taken))
-
-slices-ok-requires : tie.Need-slices-ok-requires
-slices-ok-requires c κs = search needs
 
 returns-2 : tie.Need-returns-2
 unfolding drawCode
@@ -32,9 +27,6 @@ returns-3 c =
     (passes 3 _ (said-yes (c .before .before .before .slices-ok .ensures) (c .before .before .if2 .left))
     (refuses 4 _ (said-no (c .before .layer-ok .ensures) (c .if3 .taken))))
 
-numbers-ok-requires : tie.Need-numbers-ok-requires
-numbers-ok-requires c κs = search needs
-
 returns-4 : tie.Need-returns-4
 unfolding drawCode
 returns-4 c =
@@ -42,9 +34,6 @@ returns-4 c =
     (passes 3 _ (said-yes (c .before .before .before .before .before .slices-ok .ensures) (c .before .before .before .before .if2 .left))
     (passes 4 _ (said-yes (c .before .before .before .layer-ok .ensures) (c .before .before .if3 .left))
     (refuses 5 _ (said-no (c .before .numbers-ok .ensures) (c .if4 .taken)))))
-
-all-below-requires : tie.Need-all-below-requires
-all-below-requires c κs = search needs
 
 returns-5 : tie.Need-returns-5
 unfolding drawCode
@@ -68,14 +57,5 @@ pub draw-code-spec : {M : Type 1} → statement M
 draw-code-spec =
     tie.close
     (tie.spec
-    sizes-ok-requires
-    returns
-    slices-ok-requires
-    returns-2
-    layer-ok-requires
-    returns-3
-    numbers-ok-requires
-    returns-4
-    all-below-requires
-    returns-5
-    returns-6)
+    (λ c κs. search needs) returns (λ c κs. search needs) returns-2 layer-ok-requires returns-3 (λ c κs. search needs) returns-4
+    (λ c κs. search needs) returns-5 returns-6)

@@ -6,15 +6,6 @@ use Rattle.drawing.proofs.Accepted.{draw-accepted, draw-refused, draw-d
 use Rattle.drawing.proofs.pix2tri_by_rasterization.Statement.{statement}
 use Rattle.drawing.proofs.pix2tri_by_rasterization.Tie as tie
 
-draw-code-requires : tie.Need-draw-code-requires
-draw-code-requires c κs = search needs
-
-same-length : tie.Need-same-length
-same-length c = search needs
-
-same-length-2 : tie.Need-same-length-2
-same-length-2 c = search needs
-
 returns : tie.Need-returns
 returns c =
     let a = c .before .before .before .before .before .before .before .before .args in
@@ -25,12 +16,6 @@ draw-faces-requires c κs =
     let a = c .before .before .before .before .before .before .before .before .before .before .args in
     draw-accepted (layer (a .pix2tri .now) (a .pix2depth .now)) (a .tri2vtx .now) (a .vtx2xyz .now) (a .img-w) (a .img-h) (a .first) (sym (c .before .before .before .draw-code .ensures) ∙ c .before .before .if1 .left)
 
-same-length-3 : tie.Need-same-length-3
-same-length-3 c = search needs
-
-same-length-4 : tie.Need-same-length-4
-same-length-4 c = search needs
-
 returns-2 : tie.Need-returns-2
 returns-2 c =
     let a = c .before .before .before .before .before .before .before .before .before .before .before .before .before .before .before .args in
@@ -40,11 +25,4 @@ pub pix2tri-by-rasterization-spec : {M : Type 1} → statement M
 pix2tri-by-rasterization-spec =
     tie.close
     (tie.spec
-    draw-code-requires
-    same-length
-    same-length-2
-    returns
-    draw-faces-requires
-    same-length-3
-    same-length-4
-    returns-2)
+    (λ c κs. search needs) (λ c. search needs) (λ c. search needs) returns draw-faces-requires (λ c. search needs) (λ c. search needs) returns-2)

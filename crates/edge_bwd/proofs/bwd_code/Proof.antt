@@ -1,5 +1,6 @@
 use Rattle.questions.specs.Questions.{firstNo}
-use Rattle.questions.specs.Laws.{sized, channelled, said-no, said-yes}
+use Rattle.lists.specs.Laws.Tests.{said-no, said-yes}
+use Rattle.questions.specs.Laws.{sized, channelled}
 use Rattle.edges.specs.Gradient.{signal}
 use Rattle.edge_bwd.specs.Calls.{bwdCode}
 use Rattle.edge_bwd.proofs.Calls.{ready}

@@ -1,5 +1,5 @@
 use Rattle.questions.specs.Questions.{firstNo}
-use Rattle.questions.specs.Laws.{said-no, said-yes}
+use Rattle.lists.specs.Laws.Tests.{said-no, said-yes}
 use borrow.Author.Needs.{needs}
 use Rattle.edge_bwd.proofs.pairs_code.Statement.{statement}
 use Rattle.edge_bwd.proofs.pairs_code.Tie as tie

@@ -1,9 +1,10 @@
 use mathlib.Core.Path.{sym, _∙_}
 use mathlib.Core.List.{[]}
-use Rattle.questions.specs.Laws.{said-no, said-yes, refuses, passes}
+use Rattle.lists.specs.Laws.Tests.{said-no, said-yes, after-no, after-yes}
+use Rattle.questions.specs.Laws.{refuses, passes}
 use Rattle.questions.specs.Laws.Opening.{first-refused, opened, past-opening}
+use Rattle.pairs.specs.Laws.{pixels-exact}
 use Rattle.edges.specs.Calls.{edgeCode}
-use Rattle.edges.specs.Laws.{whole-map}
 use borrow.Author.Needs.{needs}
 use Rattle.edges.proofs.edge_code.Statement.{statement}
 use Rattle.edges.proofs.edge_code.Tie as tie
@@ -13,31 +14,46 @@ opening-code-requires c κs = search needs
 
 returns : tie.Need-returns
 unfolding edgeCode
-returns c = c .before .opening-code .ensures ∙ first-refused _ _ (λ z. c .if1 .taken (c .before .opening-code .ensures ∙ z))
+returns c = let e = c .before .opening-code .ensures in e ∙ first-refused _ _ (λ z. c .if1 .taken (e ∙ z))
 
-lengths-ok-requires : tie.Need-lengths-ok-requires
-lengths-ok-requires c κs =
+pixels-ok-requires : tie.Need-pixels-ok-requires
+pixels-ok-requires c κs =
     let o = opened _ _ _ _ _ [] (sym (c .before .opening-code .ensures) ∙ c .if1 .left) .0 in (o .size, o .few)
 
 returns-2 : tie.Need-returns-2
 unfolding edgeCode
 returns-2 c =
     let first = c .before .before in
-    past-opening _ _ _ _ _ _ (sym (first .before .opening-code .ensures) ∙ first .if1 .left) (refuses 4 _ (said-no (c .before .lengths-ok .ensures) (c .if2 .taken)))
+    past-opening _ _ _ _ _ _ (sym (first .before .opening-code .ensures) ∙ first .if1 .left)
+    (refuses 4 _ (after-no _ (said-no (c .before .pixels-ok .ensures) (c .if2 .taken))))
 
-closing-code-requires : tie.Need-closing-code-requires
-closing-code-requires c κs =
-    let first = c .before .before in
-    let o = opened _ _ _ _ _ [] (sym (first .before .opening-code .ensures) ∙ first .if1 .left) .0 in
-    (o .size, (o .faces, (o .vertices, whole-map _ _ _ _ _ _ (said-yes (c .before .lengths-ok .ensures) (c .if2 .left)))))
+buffers-ok-requires : tie.Need-buffers-ok-requires
+buffers-ok-requires c κs =
+    let first = c .before .before in opened _ _ _ _ _ [] (sym (first .before .opening-code .ensures) ∙ first .if1 .left) .0 .size
 
 returns-3 : tie.Need-returns-3
 unfolding edgeCode
 returns-3 c =
-    let second = c .before in
+    let second = c .before .before in
     let first = second .before .before in
     past-opening _ _ _ _ _ _ (sym (first .before .opening-code .ensures) ∙ first .if1 .left)
-    (passes 4 _ (said-yes (second .before .lengths-ok .ensures) (second .if2 .left)) (c .closing-code .ensures))
+    (refuses 4 _ (after-yes (said-yes (second .before .pixels-ok .ensures) (second .if2 .left)) (said-no (c .before .buffers-ok .ensures) (c .if3 .taken))))
+
+closing-code-requires : tie.Need-closing-code-requires
+closing-code-requires c κs =
+    let second = c .before .before in
+    let first = second .before .before in
+    let o = opened _ _ _ _ _ [] (sym (first .before .opening-code .ensures) ∙ first .if1 .left) .0 in
+    (o .size, (o .faces, (o .vertices, pixels-exact _ _ _ _ (o .few) (said-yes (second .before .pixels-ok .ensures) (second .if2 .left)) .0)))
+
+returns-4 : tie.Need-returns-4
+unfolding edgeCode
+returns-4 c =
+    let third = c .before in
+    let second = third .before .before in
+    let first = second .before .before in
+    past-opening _ _ _ _ _ _ (sym (first .before .opening-code .ensures) ∙ first .if1 .left)
+    (passes 4 _ (after-yes (said-yes (second .before .pixels-ok .ensures) (second .if2 .left)) (said-yes (third .before .buffers-ok .ensures) (third .if3 .left))) (c .closing-code .ensures))
 
 pub edge-code-spec : {M : Type 1} → statement M
 edge-code-spec =
@@ -45,7 +61,9 @@ edge-code-spec =
     (tie.spec
     opening-code-requires
     returns
-    lengths-ok-requires
+    pixels-ok-requires
     returns-2
+    buffers-ok-requires
+    returns-3
     closing-code-requires
-    returns-3)
+    returns-4)

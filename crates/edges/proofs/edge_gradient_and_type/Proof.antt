@@ -1,5 +1,5 @@
 use mathlib.Core.Path.{sym, _∙_}
-use Rattle.edges.specs.Calls.{sheet}
+use Rattle.edge_types.specs.Axis.{axisBuffers}
 use Rattle.edges.specs.Laws.{edge-accepted}
 use Rattle.edges.proofs.Calls.{edge-refused, edge-done}
 use borrow.Author.Needs.{needs}
@@ -22,17 +22,19 @@ same-length-4 : tie.Need-same-length-4
 same-length-4 c = search needs
 
 returns : tie.Need-returns
-returns c = edge-refused _ _ _ _ _ _ _ _ (c .before .edge-code .ensures) (c .if1 .taken)
+returns c = edge-refused _ _ _ _ _ _ _ (c .before .edge-code .ensures) (c .if1 .taken)
 
-fill-sheet-requires : tie.Need-fill-sheet-requires
-fill-sheet-requires c κs =
-    let known = edge-accepted _ _ _ _ _ _ _ (sym (c .before .before .before .edge-code .ensures) ∙ c .before .before .if1 .left) in
-    (known .image, (known .signals, (search needs, (known .htypes, known .hdldrs))))
+fill-axis-requires : tie.Need-fill-axis-requires
+fill-axis-requires c κs =
+    let passed = c .before .before in
+    let known = edge-accepted _ _ _ _ _ _ (sym (passed .before .edge-code .ensures) ∙ passed .if1 .left) in
+    (known .image, (known .values, (search needs, known .hedges)))
 
-fill-sheet-requires-2 : tie.Need-fill-sheet-requires-2
-fill-sheet-requires-2 c κs =
-    let known = edge-accepted _ _ _ _ _ _ _ (sym (c .before .before .before .before .before .before .before .before .before .before .edge-code .ensures) ∙ c .before .before .before .before .before .before .before .before .before .if1 .left) in
-    (known .image, (known .signals, (search needs, (known .vtypes, known .vdldrs))))
+fill-axis-requires-2 : tie.Need-fill-axis-requires-2
+fill-axis-requires-2 c κs =
+    let passed = c .before .before .before .before .before .before .before .before .before in
+    let known = edge-accepted _ _ _ _ _ _ (sym (passed .before .edge-code .ensures) ∙ passed .if1 .left) in
+    (known .image, (known .values, (search needs, known .vedges)))
 
 same-length-5 : tie.Need-same-length-5
 same-length-5 c = search needs
@@ -48,7 +50,10 @@ same-length-8 c = search needs
 
 returns-2 : tie.Need-returns-2
 returns-2 c =
-    edge-done _ _ _ _ _ _ _ _ (c .before .before .before .before .before .before .before .before .before .before .before .before .before .before .before .edge-code .ensures) (sheet _ _) (sheet _ _) (c .before .before .before .before .before .before .before .before .before .before .before .before .before .before .if1 .left) (c .before .before .before .before .before .before .before .before .before .before .before .fill-sheet .ensures) (c .before .before .before .before .fill-sheet2 .ensures)
+    let second = c .before .before .before .before in
+    let first = second .before .before .before .before .before .before .before in
+    let passed = first .before .before .before in
+    edge-done _ _ _ _ _ _ _ (passed .before .edge-code .ensures) (axisBuffers _ _) (axisBuffers _ _) (passed .if1 .left) (first .fill-axis .ensures) (second .fill-axis2 .ensures)
 
 pub edge-gradient-and-type-spec : {M : Type 1} → statement M
 edge-gradient-and-type-spec =
@@ -60,8 +65,8 @@ edge-gradient-and-type-spec =
     same-length-3
     same-length-4
     returns
-    fill-sheet-requires
-    fill-sheet-requires-2
+    fill-axis-requires
+    fill-axis-requires-2
     same-length-5
     same-length-6
     same-length-7

@@ -2,7 +2,7 @@
 use borrow.Author.Needs.{needs}
 use Rattle.geometry.specs.Formula.{shares}
 use Rattle.geometry.specs.Leaf.{weighed}
-use Rattle.geometry.proofs.Flags.{so-not, so-yes}
+use Rattle.lists.specs.Laws.Tests.{said-no, said-yes}
 use Rattle.geometry.proofs.weighed.Statement.{statement}
 use Rattle.geometry.proofs.weighed.Tie as tie
 
@@ -11,15 +11,15 @@ finite-requires c κs = search needs
 
 returns : tie.Need-returns
 unfolding weighed
-returns c = rw (so-not (c .before .finite .ensures) (c .if1 .taken))
+returns c = rw (said-no (c .before .finite .ensures) (c .if1 .taken))
 
 returns-2 : tie.Need-returns-2
 unfolding weighed
-returns-2 c = rw (so-yes (c .before .before .finite .ensures) (c .before .if1 .left), c .if2 .taken)
+returns-2 c = rw (said-yes (c .before .before .finite .ensures) (c .before .if1 .left), c .if2 .taken)
 
 returns-3 : tie.Need-returns-3
 unfolding weighed shares
-returns-3 c = rw (so-yes (c .before .before .finite .ensures) (c .before .if1 .left), c .if2 .left)
+returns-3 c = rw (said-yes (c .before .before .finite .ensures) (c .before .if1 .left), c .if2 .left)
 
 pub weighed-spec : {M : Type 1} → statement M
 weighed-spec = tie.close (tie.spec finite-requires returns returns-2 returns-3)

@@ -1,4 +1,8 @@
-use Rattle.layers.proofs.Calls.{clear-refused, clear-done, lowest-is}
+use mathlib.Core.Path.{_∙_, sym}
+use native.Mathlib.Omega.{arith}
+use Rattle.questions.specs.Laws.{area}
+use Rattle.layers.specs.Laws.Answers.{clear-accepted}
+use Rattle.layers.proofs.Calls.{clear-refused, clear-done}
 use borrow.Author.Needs.{needs}
 use Rattle.layers.proofs.clear.Statement.{statement}
 use Rattle.layers.proofs.clear.Tie as tie
@@ -15,11 +19,16 @@ same-length-2 c = search needs
 returns : tie.Need-returns
 returns c = clear-refused _ _ _ _ (c .before .clear-code .ensures) (c .if1 .taken)
 
-fill-numbers-requires : tie.Need-fill-numbers-requires
-fill-numbers-requires c κs = search needs
+mul-clear-pixels : tie.Need-mul-clear-pixels
+mul-clear-pixels c =
+    let asked = c .before .before .before in
+    let k = clear-accepted _ _ _ (sym (asked .clear-code .ensures) ∙ c .before .before .if1 .left) in
+    record { fits = omega (arith, area 1 _ _ (k .0)) }
 
-fill-depths-requires : tie.Need-fill-depths-requires
-fill-depths-requires c κs = search needs
+clear-pixels-requires : tie.Need-clear-pixels-requires
+clear-pixels-requires c κs =
+    let asked = c .before .before .before in
+    clear-accepted _ _ _ (sym (asked .clear-code .ensures) ∙ c .before .before .if1 .left) .1
 
 same-length-3 : tie.Need-same-length-3
 same-length-3 c = search needs
@@ -29,10 +38,9 @@ same-length-4 c = search needs
 
 returns-2 : tie.Need-returns-2
 returns-2 c =
-    let filled = c .before .before .before .before .before .before in
-    let asked = filled .before .before .before in
-    clear-done _ _ _ _ _ _ _ (asked .clear-code .ensures) (filled .before .before .if1 .left) lowest-is (filled .fill-numbers .ensures)
-    (c .before .before .fill-depths .ensures)
+    let cleared = c .before .before .before .before in
+    let tested = cleared .before .before .before in
+    clear-done _ _ _ _ _ (tested .before .clear-code .ensures) (tested .if1 .left) (cleared .clear-pixels .ensures)
 
 pub clear-spec : {M : Type 1} → statement M
 clear-spec =
@@ -42,8 +50,8 @@ clear-spec =
     same-length
     same-length-2
     returns
-    fill-numbers-requires
-    fill-depths-requires
+    mul-clear-pixels
+    clear-pixels-requires
     same-length-3
     same-length-4
     returns-2)

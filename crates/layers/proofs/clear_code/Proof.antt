@@ -1,5 +1,6 @@
 use borrow.Author.Needs.{needs}
-use Rattle.questions.specs.Laws.{sized, said-no, said-yes, refuses, passes, ends}
+use Rattle.lists.specs.Laws.Tests.{said-no, said-yes}
+use Rattle.questions.specs.Laws.{sized, refuses, passes, ends}
 use Rattle.layers.specs.Calls.{clearCode}
 use Rattle.layers.proofs.clear_code.Statement.{statement}
 use Rattle.layers.proofs.clear_code.Tie as tie

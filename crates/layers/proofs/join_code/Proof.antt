@@ -1,5 +1,6 @@
 use borrow.Author.Needs.{needs}
-use Rattle.questions.specs.Laws.{sized, said-no, said-yes, after-no, after-yes, refuses, passes, ends}
+use Rattle.lists.specs.Laws.Tests.{said-no, said-yes, after-no, after-yes}
+use Rattle.questions.specs.Laws.{sized, refuses, passes, ends}
 use Rattle.layers.specs.Calls.{joinCode}
 use Rattle.layers.proofs.join_code.Statement.{statement}
 use Rattle.layers.proofs.join_code.Tie as tie

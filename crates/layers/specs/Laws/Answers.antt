@@ -1,20 +1,15 @@
--- What an accepted call of `clear` or `join` knows, and what a refused one leaves.
+-- What an accepted call of `clear` or `join` knows.
 use Prim.Native.Nat.{ℕ, _*_}
-use mathlib.Core.Path.{_≡_, ap}
+use mathlib.Core.Path.{_≡_}
 use mathlib.Core.Bool.{true, _&&_}
 use mathlib.Core.List.{[]}
 use lib.ListN.{length}
 use Rattle.questions.specs.Questions.{sizes, exact}
-use Rattle.questions.specs.Laws.{Sized, sized, both, accepted, exactly, untouched}
-use Rattle.layers.specs.Layer.{Layer, outcome, answer}
+use Rattle.lists.specs.Laws.Tests.{both}
+use Rattle.questions.specs.Laws.{Sized, sized, accepted, exactly}
+use Rattle.layers.specs.Layer.{Layer}
 use Rattle.layers.specs.Steps.{Spans}
 use Rattle.layers.specs.Calls.{exactLayer, clearCode, joinCode}
-
-pub refusal : (code : ℕ) (before after : Layer) → (code ≡ 0 → ⊥) → outcome code (before .pix2tri) (before .pix2depth) ≡ answer code before after
-refusal code before after h = ap (λ (l : Layer). outcome code (l .pix2tri) (l .pix2depth)) (untouched code after h)
-
-pub acceptance : (code : ℕ) (before after : Layer) → code ≡ 0 → outcome 0 (after .pix2tri) (after .pix2depth) ≡ answer code before after
-acceptance code before after e = rw e
 
 pub exact-spans : (w h : ℕ) (l : Layer) → exactLayer w h l ≡ true → Spans l (w * h)
 exact-spans w h l e =

@@ -1,7 +1,7 @@
 -- `pieces::corners_pieces`: whether to clip, and whether a corner is behind the camera.
 use borrow.Author.Needs.{needs}
 use Rattle.rules.specs.Piece.{cornersPieces}
-use Rattle.geometry.proofs.Flags.{so}
+use Rattle.lists.specs.Laws.Tests.{so}
 use Rattle.pieces.proofs.corners_pieces.Statement.{statement}
 use Rattle.pieces.proofs.corners_pieces.Tie as tie
 
@@ -9,20 +9,13 @@ returns : tie.Need-returns
 unfolding cornersPieces
 returns c = rw (c .if1 .taken)
 
-any-behind-requires : tie.Need-any-behind-requires
-any-behind-requires c κs = search needs
-
 returns-2 : tie.Need-returns-2
 unfolding cornersPieces
 returns-2 c = rw (c .before .before .if1 .left, so (c .before .any-behind .ensures) (c .if2 .taken))
-
-clipped-requires : tie.Need-clipped-requires
-clipped-requires c κs = search needs
 
 returns-3 : tie.Need-returns-3
 unfolding cornersPieces
 returns-3 c = rw (c .before .before .before .if1 .left, so (c .before .before .any-behind .ensures) (c .before .if2 .left)) (c .clipped .ensures)
 
 pub corners-pieces-spec : {M : Type 1} → statement M
-corners-pieces-spec =
-    tie.close (tie.spec returns any-behind-requires returns-2 clipped-requires returns-3)
+corners-pieces-spec = tie.close (tie.spec returns (λ c κs. search needs) returns-2 (λ c κs. search needs) returns-3)

@@ -4,15 +4,9 @@ use Rattle.rules.specs.Piece.{cut}
 use Rattle.pieces.proofs.cut.Statement.{statement}
 use Rattle.pieces.proofs.cut.Tie as tie
 
-clip-t-requires : tie.Need-clip-t-requires
-clip-t-requires c κs = search needs
-
-interp-hom-requires : tie.Need-interp-hom-requires
-interp-hom-requires c κs = search needs
-
 returns : tie.Need-returns
 unfolding cut
 returns c = rw (← (c .before .clip-t .ensures)) (c .interp-hom .ensures)
 
 pub cut-spec : {M : Type 1} → statement M
-cut-spec = tie.close (tie.spec clip-t-requires interp-hom-requires returns)
+cut-spec = tie.close (tie.spec (λ c κs. search needs) (λ c κs. search needs) returns)

@@ -5,7 +5,7 @@ use native.Mathlib.Omega.{arith}
 use borrow.Author.Needs.{needs}
 use borrow.Author.Tests.{lt-ltb, le-ltb}
 use Rattle.questions.specs.Questions.{allBelow}
-use Rattle.questions.proofs.Answers.{more, stopped, ended}
+use Rattle.lists.specs.Laws.Every.{more, stopped, ended}
 use Rattle.questions.proofs.all_below.Statement.{statement}
 use Rattle.questions.proofs.all_below.Tie as tie
 

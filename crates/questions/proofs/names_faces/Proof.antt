@@ -4,7 +4,7 @@ use lib.ListN.{length, drop}
 use borrow.Author.Needs.{needs}
 use borrow.Author.Tests.{not-true, not-false}
 use Rattle.questions.specs.Questions.{namesFaces}
-use Rattle.questions.proofs.Answers.{more, stopped, ended}
+use Rattle.lists.specs.Laws.Every.{more, stopped, ended}
 use Rattle.questions.proofs.names_faces.Statement.{statement}
 use Rattle.questions.proofs.names_faces.Tie as tie
 

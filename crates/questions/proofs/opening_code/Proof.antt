@@ -1,4 +1,5 @@
-use Rattle.questions.specs.Laws.{said-no, said-yes, after-no, after-yes, refuses, passes, ends}
+use Rattle.lists.specs.Laws.Tests.{said-no, said-yes}
+use Rattle.questions.specs.Laws.{refuses, passes, ends}
 use borrow.Author.Needs.{needs}
 use Rattle.questions.proofs.opening_code.Statement.{statement}
 use Rattle.questions.proofs.opening_code.Tie as tie
@@ -17,29 +18,20 @@ returns-2 c =
     passes 1 _ (said-yes (c .before .before .before .sizes-ok .ensures) (c .before .before .if1 .left))
     (refuses 2 _ (said-no (c .before .channels-ok .ensures) (c .if2 .taken)))
 
-groups-ok-requires : tie.Need-groups-ok-requires
-groups-ok-requires c κs = search needs
+slices-ok-requires : tie.Need-slices-ok-requires
+slices-ok-requires c κs = search needs
 
 returns-3 : tie.Need-returns-3
 returns-3 c =
     passes 1 _ (said-yes (c .before .before .before .before .before .sizes-ok .ensures) (c .before .before .before .before .if1 .left))
     (passes 2 _ (said-yes (c .before .before .before .channels-ok .ensures) (c .before .before .if2 .left))
-    (refuses 3 _ (after-no _ (said-no (c .before .groups-ok .ensures) (c .if3 .taken)))))
-
-groups-ok-requires-2 : tie.Need-groups-ok-requires-2
-groups-ok-requires-2 c κs = search needs
+    (refuses 3 _ (said-no (c .before .slices-ok .ensures) (c .if3 .taken))))
 
 returns-4 : tie.Need-returns-4
 returns-4 c =
-    passes 1 _ (said-yes (c .before .before .before .before .before .before .before .sizes-ok .ensures) (c .before .before .before .before .before .before .if1 .left))
-    (passes 2 _ (said-yes (c .before .before .before .before .before .channels-ok .ensures) (c .before .before .before .before .if2 .left))
-    (refuses 3 _ (after-yes (said-yes (c .before .before .before .groups-ok .ensures) (c .before .before .if3 .left)) (said-no (c .before .groups-ok2 .ensures) (c .if4 .taken)))))
-
-returns-5 : tie.Need-returns-5
-returns-5 c =
-    passes 1 _ (said-yes (c .before .before .before .before .before .before .before .sizes-ok .ensures) (c .before .before .before .before .before .before .if1 .left))
-    (passes 2 _ (said-yes (c .before .before .before .before .before .channels-ok .ensures) (c .before .before .before .before .if2 .left))
-    (passes 3 _ (after-yes (said-yes (c .before .before .before .groups-ok .ensures) (c .before .before .if3 .left)) (said-yes (c .before .groups-ok2 .ensures) (c .if4 .left))) ends))
+    passes 1 _ (said-yes (c .before .before .before .before .before .sizes-ok .ensures) (c .before .before .before .before .if1 .left))
+    (passes 2 _ (said-yes (c .before .before .before .channels-ok .ensures) (c .before .before .if2 .left))
+    (passes 3 _ (said-yes (c .before .slices-ok .ensures) (c .if3 .left)) ends))
 
 pub opening-code-spec : {M : Type 1} → statement M
 opening-code-spec =
@@ -49,8 +41,6 @@ opening-code-spec =
     returns
     channels-ok-requires
     returns-2
-    groups-ok-requires
+    slices-ok-requires
     returns-3
-    groups-ok-requires-2
-    returns-4
-    returns-5)
+    returns-4)

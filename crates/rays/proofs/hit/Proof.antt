@@ -3,18 +3,6 @@ use borrow.Author.Needs.{needs}
 use Rattle.rays.proofs.hit.Statement.{statement}
 use Rattle.rays.proofs.hit.Tie as tie
 
-minus3-requires : tie.Need-minus3-requires
-minus3-requires c κs = search needs
-
-dot3-requires : tie.Need-dot3-requires
-dot3-requires c κs = search needs
-
-dot3-requires-2 : tie.Need-dot3-requires-2
-dot3-requires-2 c κs = search needs
-
-along3-requires : tie.Need-along3-requires
-along3-requires c κs = search needs
-
 returns : tie.Need-returns
 unfolding hit distance
 returns c =
@@ -22,4 +10,4 @@ returns c =
 
 pub hit-spec : {M : Type 1} → statement M
 hit-spec =
-    tie.close (tie.spec minus3-requires dot3-requires dot3-requires-2 along3-requires returns)
+    tie.close (tie.spec (λ c κs. search needs) (λ c κs. search needs) (λ c κs. search needs) (λ c κs. search needs) returns)

@@ -3,27 +3,9 @@ use borrow.Author.Needs.{needs}
 use Rattle.rays.proofs.ray_at.Statement.{statement}
 use Rattle.rays.proofs.ray_at.Tie as tie
 
-project-requires : tie.Need-project-requires
-project-requires c κs = search needs
-
-enum-known-near : tie.Need-enum-known-near
-enum-known-near c = search needs
-
-enum-told : tie.Need-enum-told
-enum-told c = search needs
-
 returns : tie.Need-returns
 unfolding rayAt rayBetween
 returns c = rw (← (c .before .before .project .ensures), c .enum-told .given .1)
-
-project-requires-2 : tie.Need-project-requires-2
-project-requires-2 c κs = search needs
-
-enum-known-far : tie.Need-enum-known-far
-enum-known-far c = search needs
-
-enum-told-2 : tie.Need-enum-told-2
-enum-told-2 c = search needs
 
 returns-2 : tie.Need-returns-2
 unfolding rayAt rayBetween
@@ -35,9 +17,6 @@ returns-2 c =
       ← (c .before .before .project2 .ensures),
       c .enum-told2 .given .1,
     )
-
-minus3-requires : tie.Need-minus3-requires
-minus3-requires c κs = search needs
 
 returns-3 : tie.Need-returns-3
 unfolding rayAt rayBetween
@@ -56,13 +35,13 @@ pub ray-at-spec : {M : Type 1} → statement M
 ray-at-spec =
     tie.close
     (tie.spec
-    project-requires
-    enum-known-near
-    enum-told
+    (λ c κs. search needs)
+    (λ c. search needs)
+    (λ c. search needs)
     returns
-    project-requires-2
-    enum-known-far
-    enum-told-2
+    (λ c κs. search needs)
+    (λ c. search needs)
+    (λ c. search needs)
     returns-2
-    minus3-requires
+    (λ c κs. search needs)
     returns-3)

@@ -5,15 +5,9 @@ use borrow.Author.Needs.{needs}
 use Rattle.rays.proofs.row_at.Statement.{statement}
 use Rattle.rays.proofs.row_at.Tie as tie
 
-centre-requires : tie.Need-centre-requires
-centre-requires c κs = search needs
-
-as-float-requires : tie.Need-as-float-requires
-as-float-requires c κs = search needs
-
 returns : tie.Need-returns
 unfolding rowAt down
 returns c = rw (two, ← (c .before .centre .ensures), ← (c .as-float .ensures))
 
 pub row-at-spec : {M : Type 1} → statement M
-row-at-spec = tie.close (tie.spec centre-requires as-float-requires returns)
+row-at-spec = tie.close (tie.spec (λ c κs. search needs) (λ c κs. search needs) returns)

@@ -18,11 +18,6 @@ unfolding finite
 cond-not true s e = false≢true e
 cond-not false s e = false≢true e
 
-cond-inf : (b s : Bool) → finite (cond b (inf s) nan) ≡ true → ⊥
-unfolding finite
-cond-inf true s e = false≢true e
-cond-inf false s e = false≢true e
-
 finite-add : (x y : Float) → finite (add binary32 x y) ≡ true → Both x y
 unfolding add finite
 finite-add nan y e = absurd (false≢true e)

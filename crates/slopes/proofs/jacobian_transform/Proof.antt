@@ -3,8 +3,8 @@ use borrow.Author.Needs.{needs}
 use Rattle.slopes.proofs.jacobian_transform.Statement.{statement}
 use Rattle.slopes.proofs.jacobian_transform.Tie as tie
 
-untested-requires : tie.Need-untested-requires
-untested-requires c κs = search needs
+project-untested-requires : tie.Need-project-untested-requires
+project-untested-requires c κs = search needs
 
 jacobian-column-requires : tie.Need-jacobian-column-requires
 jacobian-column-requires c κs = search needs
@@ -22,14 +22,14 @@ returns c =
       c .before .before .jacobian-column .ensures,
       c .before .jacobian-column2 .ensures,
       c .jacobian-column3 .ensures,
-      c .before .before .before .untested .ensures,
+      c .before .before .before .project-untested .ensures,
     )
 
 pub jacobian-transform-spec : {M : Type 1} → statement M
 jacobian-transform-spec =
     tie.close
     (tie.spec
-    untested-requires
+    project-untested-requires
     jacobian-column-requires
     jacobian-column-requires-2
     jacobian-column-requires-3

@@ -5,17 +5,19 @@ use mathlib.Core.List.{List, [], _∷_}
 use lib.Ieee.{nan, ofBits, ofInt, add, sub, mul, div, neg, lt, le, eq}
 use Rattle.geometry.specs.Formula.{sumOf, cross2, areas, total, shares, row, over}
 use Rattle.geometry.specs.Leaf.{finite, weighed, weighedAll, cornerWeights, divided, project}
-use Rattle.questions.specs.Questions.{empty, firstNo, sizes, channels, groups, exact, every, namesFace}
-use Rattle.layers.specs.Layer.{tabulate}
+use Rattle.lists.specs.Lists.{every}
+use Rattle.questions.specs.Questions.{empty, firstNo, sizes, channels, groups, exact, namesFace}
+use Rattle.lists.specs.Lists.{tabulate}
 use Rattle.meshes.specs.Mesh.{vertexAt, faceAt}
 use Rattle.meshes.specs.View.{viewOf, named}
 use Rattle.pixels.specs.Pixel.{centre, centreOf}
 use Rattle.pixels.specs.Edge.{edgeAt}
 use Rattle.theorems.specs.Examples.{zero, one, quarter, matrix, corners}
-use Rattle.edges.specs.Inside.{allFromZero, allToZero, inside, together, projectFace, weightsIn, contains, present, projects}
+use Rattle.inside.specs.Inside.{allFromZero, allToZero, inside, together, projectFace, weightsIn, contains, present, projects}
 use Rattle.edges.specs.Types.{sight, firstInSecond, secondInFirst, typeOf, answered}
 use Rattle.edges.specs.Gradient.{signal, share, dldr}
-use Rattle.edges.specs.Calls.{sheet, sheetOf, all, allAnswered, exactAll, edgeCode, Outcome, outcome, answer, edgeTyping}
+use Rattle.lists.specs.Lists.{span, every}
+use Rattle.edges.specs.Calls.{sheet, sheetOf, allAnswered, exactAll, edgeCode, Outcome, outcome, answer, edgeTyping}
 
 -- T(0.25), 2 × 1, one channel, values 1, 0, incoming 1, 1; the buffers hold 9 and NaN before
 unfoldable pub typed : List ℕ → Outcome

@@ -3,7 +3,8 @@ use Prim.Native.Nat.{ℕ}
 use mathlib.Core.Path.{_≡_, refl}
 use mathlib.Core.List.{List, [], _∷_}
 use lib.Ieee.{Float, nan, binary32, ofBits, ofInt, add, sub, mul, div, neg, eq}
-use Rattle.questions.specs.Questions.{empty, firstNo, sizes, channels, groups, exact, every, namesFace}
+use Rattle.lists.specs.Lists.{every}
+use Rattle.questions.specs.Questions.{empty, firstNo, sizes, channels, groups, exact, namesFace}
 use Rattle.geometry.specs.Formula.{blend, row, over}
 use Rattle.geometry.specs.Leaf.{divided, project}
 use Rattle.pixels.specs.Pixel.{centre}
@@ -12,7 +13,7 @@ use Rattle.rays.specs.Plane.{normal, distance, hit, weight, weightsAt, weightsO
 use Rattle.rays.specs.Pixel.{rayBetween, rayAt, columnAt, rowAt, pixelRay}
 use Rattle.meshes.specs.Mesh.{faceAt, vertexAt, cornersAt}
 use Rattle.meshes.specs.View.{named}
-use Rattle.layers.specs.Layer.{tabulate}
+use Rattle.lists.specs.Lists.{tabulate}
 use Rattle.theorems.specs.Examples.{zero, one, quarter, matrix, corners}
 use Rattle.values.specs.Pass.{image, vertices, rayOf}
 use Rattle.values.specs.Questions.{answered, raysAnswer, exactCounts}

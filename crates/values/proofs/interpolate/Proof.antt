@@ -1,39 +1,34 @@
+use mathlib.Core.Bool.{true}
 use mathlib.Core.Path.{sym, _∙_}
-use Rattle.values.specs.Laws.Asked.{interpolate-accepted}
+use Rattle.vertex_values.specs.Laws.{ready}
+use Rattle.values.specs.Interpolate.{interpolateCode}
 use Rattle.values.proofs.Values.{refused, done}
 use borrow.Author.Needs.{needs}
 use Rattle.values.proofs.interpolate.Statement.{statement}
 use Rattle.values.proofs.interpolate.Tie as tie
 
-interpolate-code-requires : tie.Need-interpolate-code-requires
-interpolate-code-requires c κs = search needs
-
-same-length : tie.Need-same-length
-same-length c = search needs
-
 returns : tie.Need-returns
-returns c = refused _ _ _ _ _ _ (c .before .interpolate-code .ensures) (c .if1 .taken)
+unfolding interpolateCode
+returns c = refused _ _ _ _ _ _ (c .before .pass-code .ensures) (c .if1 .taken)
 
 image-values-requires : tie.Need-image-values-requires
 image-values-requires c κs =
-    let k = interpolate-accepted _ _ _ _ _ (sym (c .before .before .interpolate-code .ensures) ∙ c .before .if1 .left) in
-    (k .mesh, (k .map, k .pixels))
-
-same-length-2 : tie.Need-same-length-2
-same-length-2 c = search needs
+    let tested = c .before in
+    let k = ready _ _ _ _ _ true (sym (tested .before .pass-code .ensures) ∙ tested .if1 .left) .0 in
+    (k .shown, (k .values, k .channels))
 
 returns-2 : tie.Need-returns-2
+unfolding interpolateCode
 returns-2 c =
     let tested = c .before .before .before .before in
-    done _ _ _ _ _ _ _ (tested .before .interpolate-code .ensures) (tested .if1 .left) (c .before .before .image-values .ensures)
+    done _ _ _ _ _ _ _ (tested .before .pass-code .ensures) (tested .if1 .left) (c .before .before .image-values .ensures)
 
 pub interpolate-spec : {M : Type 1} → statement M
 interpolate-spec =
     tie.close
     (tie.spec
-    interpolate-code-requires
-    same-length
+    (λ c κs. search needs)
     returns
     image-values-requires
-    same-length-2
+    (λ c. search needs)
     returns-2)

@@ -3,7 +3,7 @@ use mathlib.Core.Path.{_≡_, refl, sym, _∙_, ap}
 use native.Mathlib.Omega.{arith}
 use lib.ListN.{length, length-set}
 use borrow.Author.Needs.{needs}
-use Rattle.layers.specs.Laws.Pixels.{stored, stored-none, stored-all}
+use Rattle.lists.specs.Laws.Tables.{stored, stored-none, stored-all}
 use Rattle.velocity.specs.Grid.{velocityAt}
 use Rattle.velocity.proofs.Places.{x-place, y-place, two-more}
 use Rattle.velocity.proofs.fill_velocities.Statement.{statement}
@@ -18,47 +18,32 @@ abbrev μ-loop : tie.MeasureT-loop
 loop-holds : tie.Need-loop-holds Inv-loop μ-loop
 loop-holds c = (omega arith, (refl, (c .before .before .before .before .pre .1 .1 .0, stored-none _ _)))
 
-mul-x : tie.Need-mul-x Inv-loop μ-loop
-mul-x c = search needs
-
-shared-slice-read-x : tie.Need-shared-slice-read-x Inv-loop μ-loop
-shared-slice-read-x c = search needs
-
-add-y : tie.Need-add-y Inv-loop μ-loop
-add-y c = search needs
-
-mul-y : tie.Need-mul-y Inv-loop μ-loop
-mul-y c = search needs
-
 shared-slice-read-y : tie.Need-shared-slice-read-y Inv-loop μ-loop
 shared-slice-read-y c = omega (arith, c .before .before .before .before .before .before .before .before .pre .1 .0, c .before .before .before .loop .inv .1 .0)
 
 sample-requires : tie.Need-sample-requires Inv-loop μ-loop
-sample-requires c κs = (c .before .before .before .before .before .before .before .before .pre .0, (search needs, c .before .before .before .before .before .before .before .before .pre .1 .1 .1 .1))
-
-mul-vtx2velo : tie.Need-mul-vtx2velo Inv-loop μ-loop
-mul-vtx2velo c = search needs
+sample-requires c κs =
+    let s = c .before .before .before .before .before .before .before .before in
+    let hedges = s .pre .1 .1 .1 .0 in
+    let vedges = s .pre .1 .1 .1 .1 in
+    (s .pre .0, (search needs, search needs))
 
 slice-write-vtx2velo : tie.Need-slice-write-vtx2velo Inv-loop μ-loop
 slice-write-vtx2velo c = omega (arith, c .before .before .before .before .loop .inv .1 .1 .0)
 
 sample-requires-2 : tie.Need-sample-requires-2 Inv-loop μ-loop
-sample-requires-2 c κs = (c .before .before .before .before .before .before .before .before .before .pre .0, (search needs, c .before .before .before .before .before .before .before .before .before .pre .1 .1 .1 .0))
-
-add-vtx2velo : tie.Need-add-vtx2velo Inv-loop μ-loop
-add-vtx2velo c = search needs
-
-mul-vtx2velo-2 : tie.Need-mul-vtx2velo-2 Inv-loop μ-loop
-mul-vtx2velo-2 c = search needs
+sample-requires-2 c κs =
+    let s = c .before .before .before .before .before .before .before .before .before in
+    let hedges = s .pre .1 .1 .1 .0 in
+    let vedges = s .pre .1 .1 .1 .1 in
+    (s .pre .0, (search needs, search needs))
 
 slice-write-vtx2velo-2 : tie.Need-slice-write-vtx2velo-2 Inv-loop μ-loop
-slice-write-vtx2velo-2 c = omega (arith, c .before .before .before .before .before .loop .inv .1 .1 .0, c .before .before .before .before .before .before .before .before .before .before .pre .1 .0, c .before .before .before .before .before .loop .inv .1 .0, length-set (c .before .before .before .before .before .loop .vtx2velo) (c .before .before .before .before .before .loop .i) (c .before .sample .result))
-
-add-i : tie.Need-add-i Inv-loop μ-loop
-add-i c = search needs
-
-loop-less : tie.Need-loop-less Inv-loop μ-loop
-loop-less c = search needs
+slice-write-vtx2velo-2 c =
+    let at = c .before .before .before .before .before in
+    let inv = at .loop .inv in
+    let pairs = at .before .before .before .before .before .pre .1 .0 in
+    omega (arith, length-set (at .loop .vtx2velo) (at .loop .i) (c .before .sample .result))
 
 loop-again : tie.Need-loop-again Inv-loop μ-loop
 loop-again c =
@@ -88,20 +73,20 @@ fill-velocities-spec =
     Inv-loop
     μ-loop
     loop-holds
-    mul-x
-    shared-slice-read-x
-    add-y
-    mul-y
+    (λ c. search needs)
+    (λ c. search needs)
+    (λ c. search needs)
+    (λ c. search needs)
     shared-slice-read-y
     sample-requires
-    mul-vtx2velo
+    (λ c. search needs)
     slice-write-vtx2velo
     sample-requires-2
-    add-vtx2velo
-    mul-vtx2velo-2
+    (λ c. search needs)
+    (λ c. search needs)
     slice-write-vtx2velo-2
-    add-i
-    loop-less
+    (λ c. search needs)
+    (λ c. search needs)
     loop-again
     same-length
     returns)

@@ -4,12 +4,6 @@ use borrow.Author.Needs.{needs}
 use Rattle.velocity.proofs.interpolate_from_edges.Statement.{statement}
 use Rattle.velocity.proofs.interpolate_from_edges.Tie as tie
 
-velocity-code-requires : tie.Need-velocity-code-requires
-velocity-code-requires c κs = search needs
-
-same-length : tie.Need-same-length
-same-length c = search needs
-
 returns : tie.Need-returns
 returns c = velocity-refused _ _ _ _ _ _ _ (c .before .velocity-code .ensures) (c .if1 .taken)
 
@@ -18,9 +12,6 @@ fill-velocities-requires c κs =
     let known = velocity-accepted _ _ _ _ _ _ (sym (c .before .before .velocity-code .ensures) ∙ c .before .if1 .left) in
     (known .size, (known .pairs, (known .velo-length, (known .hedges, known .vedges))))
 
-same-length-2 : tie.Need-same-length-2
-same-length-2 c = search needs
-
 returns-2 : tie.Need-returns-2
 returns-2 c = velocity-done _ _ _ _ _ _ _ (c .before .before .before .before .before .velocity-code .ensures) _ (c .before .before .before .before .if1 .left) (c .before .before .fill-velocities .ensures)
 
@@ -28,9 +19,9 @@ pub interpolate-from-edges-spec : {M : Type 1} → statement M
 interpolate-from-edges-spec =
     tie.close
     (tie.spec
-    velocity-code-requires
-    same-length
+    (λ c κs. search needs)
+    (λ c. search needs)
     returns
     fill-velocities-requires
-    same-length-2
+    (λ c. search needs)
     returns-2)

@@ -1,20 +1,15 @@
 use mathlib.Core.Path.{sym, _∙_}
 use native.Mathlib.Omega.{arith}
-use Rattle.questions.specs.Laws.{sized, said-no, said-yes, after-no, after-yes, refuses, passes, ends, exact-yes, exact-no}
+use Rattle.lists.specs.Laws.Tests.{said-no, said-yes, after-no, after-yes}
+use Rattle.questions.specs.Laws.{sized, refuses, passes, ends, exact-yes, exact-no}
 use Rattle.velocity.specs.Calls.{velocityCode}
 use borrow.Author.Needs.{needs}
 use Rattle.velocity.proofs.velocity_code.Statement.{statement}
 use Rattle.velocity.proofs.velocity_code.Tie as tie
 
-sizes-ok-requires : tie.Need-sizes-ok-requires
-sizes-ok-requires c κs = search needs
-
 returns : tie.Need-returns
 unfolding velocityCode
 returns c = refuses 1 _ (said-no (c .before .sizes-ok .ensures) (c .if1 .taken))
-
-groups-ok-requires : tie.Need-groups-ok-requires
-groups-ok-requires c κs = search needs
 
 returns-2 : tie.Need-returns-2
 unfolding velocityCode
@@ -67,9 +62,9 @@ pub velocity-code-spec : {M : Type 1} → statement M
 velocity-code-spec =
     tie.close
     (tie.spec
-    sizes-ok-requires
+    (λ c κs. search needs)
     returns
-    groups-ok-requires
+    (λ c κs. search needs)
     returns-2
     edge-count-requires
     returns-3

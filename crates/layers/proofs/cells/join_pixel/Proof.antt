@@ -2,7 +2,8 @@ use mathlib.Core.Path.{_≡_, refl}
 use mathlib.Core.Bool.{Bool, true, false, cond}
 use Prim.Native.Nat.{ℕ}
 use lib.Ieee.{Float, lt}
-use Rattle.layers.specs.Cell.{cell, pick, exceeds}
+use Rattle.offers.specs.Offer.{pick, exceeds}
+use Rattle.layers.specs.Cell.{cell}
 use borrow.Author.Needs.{needs}
 use Rattle.layers.proofs.cells.join_pixel.Statement.{statement}
 use Rattle.layers.proofs.cells.join_pixel.Tie as tie

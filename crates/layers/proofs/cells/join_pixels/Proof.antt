@@ -1,7 +1,7 @@
 use Prim.Native.Nat.{_-_}
 use mathlib.Core.Path.{sym, _∙_}
 use borrow.Author.Needs.{needs}
-use Rattle.layers.specs.Cell.{pick}
+use Rattle.offers.specs.Offer.{pick}
 use Rattle.layers.specs.Layer.{layer, at}
 use Rattle.layers.specs.Laws.Pixels.{Turned, turned-none, turned-more, turned-all, spans-reaches}
 use Rattle.layers.proofs.cells.join_pixels.Statement.{statement}

@@ -1,4 +1,4 @@
-use Rattle.questions.specs.Laws.{then-is, else-is}
+use Rattle.lists.specs.Laws.Tests.{then-is, else-is}
 use Rattle.layers.proofs.cells.pick_depth.Statement.{statement}
 use Rattle.layers.proofs.cells.pick_depth.Tie as tie
 

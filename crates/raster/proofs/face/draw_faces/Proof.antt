@@ -5,6 +5,7 @@ use native.Mathlib.Omega.{arith}
 use lib.ListN.{length}
 use Rattle.layers.specs.Layer.{layer}
 use Rattle.meshes.specs.Mesh.{facesOf}
+use Rattle.meshes.specs.Laws.{corner-there}
 use Rattle.rules.specs.Offers.{scene}
 use Rattle.raster.proofs.FaceList.{Left, left-all, left-less, left-none, face-read}
 use Rattle.raster.proofs.face.draw_faces.Statement.{statement}
@@ -24,10 +25,10 @@ loop-holds c =
     (refl, left-all (scene (a .m .now) (a .vtx2xyz .now) (a .w) (a .h)) (facesOf (a .tri2vtx .now)) (a .first) (layer (a .pix2tri .now) (a .pix2depth .now)) (f .pre .1 .0))
 
 mul-at : tie.Need-mul-at Inv-loop μ-loop
-mul-at c = record { fits = omega (arith, c .before .loop .inv .0, c .before .before .before .before .before .before .pre .1 .1 .numbered-to) }
+mul-at c = record { fits = omega (arith, c .before .loop .inv .0, c .before .before .before .before .before .before .pre .1 .1 .1) }
 
 mul-vertex : tie.Need-mul-vertex Inv-loop μ-loop
-mul-vertex c = record { fits = omega (arith, c .before .loop .inv .0, c .before .before .before .before .before .before .pre .1 .1 .numbered-to) }
+mul-vertex c = record { fits = omega (arith, c .before .loop .inv .0, c .before .before .before .before .before .before .pre .1 .1 .1) }
 
 shared-slice-read-vertex : tie.Need-shared-slice-read-vertex Inv-loop μ-loop
 shared-slice-read-vertex c = omega (arith, c .before .before .loop .inv .0)
@@ -37,14 +38,13 @@ cast-vertex c = omega (arith, c .shared-slice-known3 .given (3 * c .before .befo
 
 vertex-requires : tie.Need-vertex-requires Inv-loop μ-loop
 vertex-requires c κs =
-    let v = c .before .before .before .before .before .before .before .pre .1 .1 .corners (3 * c .before .before .loop .i) (omega (arith, c .before .before .loop .inv .0)) in
-    omega (arith, v)
+    corner-there (c .before .before .before .before .before .before .before .pre .1 .1 .0) (3 * c .before .before .loop .i) (omega (arith, c .before .before .loop .inv .0))
 
 add-vertex : tie.Need-add-vertex Inv-loop μ-loop
-add-vertex c = record { fits = omega (arith, c .before .before .before .loop .inv .0, c .before .before .before .before .before .before .before .before .pre .1 .1 .numbered-to) }
+add-vertex c = record { fits = omega (arith, c .before .before .before .loop .inv .0, c .before .before .before .before .before .before .before .before .pre .1 .1 .1) }
 
 mul-vertex-2 : tie.Need-mul-vertex-2 Inv-loop μ-loop
-mul-vertex-2 c = record { fits = omega (arith, c .before .before .before .loop .inv .0, c .before .before .before .before .before .before .before .before .pre .1 .1 .numbered-to) }
+mul-vertex-2 c = record { fits = omega (arith, c .before .before .before .loop .inv .0, c .before .before .before .before .before .before .before .before .pre .1 .1 .1) }
 
 shared-slice-read-vertex-2 : tie.Need-shared-slice-read-vertex-2 Inv-loop μ-loop
 shared-slice-read-vertex-2 c = omega (arith, c .before .before .before .before .loop .inv .0)
@@ -54,14 +54,13 @@ cast-vertex-2 c = omega (arith, c .shared-slice-known4 .given (3 * c .before .be
 
 vertex-requires-2 : tie.Need-vertex-requires-2 Inv-loop μ-loop
 vertex-requires-2 c κs =
-    let v = c .before .before .before .before .before .before .before .before .before .pre .1 .1 .corners (3 * c .before .before .before .before .loop .i + 1) (omega (arith, c .before .before .before .before .loop .inv .0)) in
-    omega (arith, v)
+    corner-there (c .before .before .before .before .before .before .before .before .before .pre .1 .1 .0) (3 * c .before .before .before .before .loop .i + 1) (omega (arith, c .before .before .before .before .loop .inv .0))
 
 add-vertex-2 : tie.Need-add-vertex-2 Inv-loop μ-loop
-add-vertex-2 c = record { fits = omega (arith, c .before .before .before .before .before .loop .inv .0, c .before .before .before .before .before .before .before .before .before .before .pre .1 .1 .numbered-to) }
+add-vertex-2 c = record { fits = omega (arith, c .before .before .before .before .before .loop .inv .0, c .before .before .before .before .before .before .before .before .before .before .pre .1 .1 .1) }
 
 mul-vertex-3 : tie.Need-mul-vertex-3 Inv-loop μ-loop
-mul-vertex-3 c = record { fits = omega (arith, c .before .before .before .before .before .loop .inv .0, c .before .before .before .before .before .before .before .before .before .before .pre .1 .1 .numbered-to) }
+mul-vertex-3 c = record { fits = omega (arith, c .before .before .before .before .before .loop .inv .0, c .before .before .before .before .before .before .before .before .before .before .pre .1 .1 .1) }
 
 shared-slice-read-vertex-3 : tie.Need-shared-slice-read-vertex-3 Inv-loop μ-loop
 shared-slice-read-vertex-3 c = omega (arith, c .before .before .before .before .before .before .loop .inv .0)
@@ -71,17 +70,16 @@ cast-vertex-3 c = omega (arith, c .shared-slice-known5 .given (3 * c .before .be
 
 vertex-requires-3 : tie.Need-vertex-requires-3 Inv-loop μ-loop
 vertex-requires-3 c κs =
-    let v = c .before .before .before .before .before .before .before .before .before .before .before .pre .1 .1 .corners (3 * c .before .before .before .before .before .before .loop .i + 2) (omega (arith, c .before .before .before .before .before .before .loop .inv .0)) in
-    omega (arith, v)
+    corner-there (c .before .before .before .before .before .before .before .before .before .before .before .pre .1 .1 .0) (3 * c .before .before .before .before .before .before .loop .i + 2) (omega (arith, c .before .before .before .before .before .before .loop .inv .0))
 
 draw-face-requires : tie.Need-draw-face-requires Inv-loop μ-loop
 draw-face-requires c κs = (c .before .before .before .before .before .before .before .before .before .before .before .before .before .before .pre .0, c .before .before .before .before .before .before .before .before .before .loop .inv .1 .spans)
 
 add-number : tie.Need-add-number Inv-loop μ-loop
-add-number c = record { fits = omega (arith, c .before .before .before .before .before .before .before .before .before .before .before .before .before .before .loop .inv .0, c .before .before .before .before .before .before .before .before .before .before .before .before .before .before .loop .inv .1 .number, c .before .before .before .before .before .before .before .before .before .before .before .before .before .before .before .before .before .before .before .pre .1 .1 .numbered-to) }
+add-number c = record { fits = omega (arith, c .before .before .before .before .before .before .before .before .before .before .before .before .before .before .loop .inv .0, c .before .before .before .before .before .before .before .before .before .before .before .before .before .before .loop .inv .1 .number, c .before .before .before .before .before .before .before .before .before .before .before .before .before .before .before .before .before .before .before .pre .1 .1 .1) }
 
 add-i : tie.Need-add-i Inv-loop μ-loop
-add-i c = record { fits = omega (arith, c .before .before .before .before .before .before .before .before .before .before .before .before .before .before .loop .inv .0, c .before .before .before .before .before .before .before .before .before .before .before .before .before .before .before .before .before .before .before .pre .1 .1 .numbered-to) }
+add-i c = record { fits = omega (arith, c .before .before .before .before .before .before .before .before .before .before .before .before .before .before .loop .inv .0, c .before .before .before .before .before .before .before .before .before .before .before .before .before .before .before .before .before .before .before .pre .1 .1 .1) }
 
 loop-less : tie.Need-loop-less Inv-loop μ-loop
 loop-less c = omega arith

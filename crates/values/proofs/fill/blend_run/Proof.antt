@@ -7,78 +7,33 @@ use lib.ListN.{length, getD, set}
 use Rattle.geometry.specs.Arith.{floats}
 use Rattle.geometry.specs.Vector.{weights}
 use Rattle.geometry.specs.Formula.{blend}
-use Rattle.layers.specs.Laws.Pixels.{stored, stored-none, stored-more, stored-all}
+use Rattle.lists.specs.Laws.Tables.{stored, stored-none, stored-more, stored-all}
 use Rattle.values.proofs.fill.blend_run.Statement.{statement}
 use Rattle.values.proofs.fill.blend_run.Tie as tie
 
 abbrev Inv-loop : tie.InvT-loop
-Inv-loop val₀ vtx2val a0 a1 a2 b0 b1 b2 j₀ val j =
+Inv-loop val₀ vtx2val c a0 a1 a2 b0 b1 b2 j₀ val j =
     (j ≤ length val₀) × (length val ≡ length val₀)
     × (val ≡ stored (λ k. blend floats (weights b0 b1 b2) (getD vtx2val (a0 + k) nan) (getD vtx2val (a1 + k) nan) (getD vtx2val (a2 + k) nan)) val₀ j)
 
 abbrev μ-loop : tie.MeasureT-loop
-μ-loop val₀ vtx2val a0 a1 a2 b0 b1 b2 j₀ val j = length val₀ - j
+μ-loop val₀ vtx2val c a0 a1 a2 b0 b1 b2 j₀ val j = length val₀ - j
 
 loop-holds : tie.Need-loop-holds Inv-loop μ-loop
-loop-holds c = (search needs, refl, stored-none _ (c .before .before .args .val .now))
-
-add-blend : tie.Need-add-blend Inv-loop μ-loop
-add-blend c = search needs
-
-mul-blend : tie.Need-mul-blend Inv-loop μ-loop
-mul-blend c = search needs
-
-shared-slice-read-blend : tie.Need-shared-slice-read-blend Inv-loop μ-loop
-shared-slice-read-blend c = search needs
-
-add-blend-2 : tie.Need-add-blend-2 Inv-loop μ-loop
-add-blend-2 c = search needs
-
-mul-blend-2 : tie.Need-mul-blend-2 Inv-loop μ-loop
-mul-blend-2 c = search needs
-
-shared-slice-read-blend-2 : tie.Need-shared-slice-read-blend-2 Inv-loop μ-loop
-shared-slice-read-blend-2 c = search needs
-
-add-blend-3 : tie.Need-add-blend-3 Inv-loop μ-loop
-add-blend-3 c = search needs
-
-mul-blend-3 : tie.Need-mul-blend-3 Inv-loop μ-loop
-mul-blend-3 c = search needs
-
-shared-slice-read-blend-3 : tie.Need-shared-slice-read-blend-3 Inv-loop μ-loop
-shared-slice-read-blend-3 c = search needs
-
-blend-requires : tie.Need-blend-requires Inv-loop μ-loop
-blend-requires c κs = search needs
-
-mul-val : tie.Need-mul-val Inv-loop μ-loop
-mul-val c = search needs
-
-slice-write-val : tie.Need-slice-write-val Inv-loop μ-loop
-slice-write-val c = search needs
-
-add-j : tie.Need-add-j Inv-loop μ-loop
-add-j c = search needs
-
-loop-less : tie.Need-loop-less Inv-loop μ-loop
-loop-less c = search needs
+loop-holds c = (search needs, refl, stored-none _ (c .before .before .before .before .before .args .val .now))
 
 loop-again : tie.Need-loop-again Inv-loop μ-loop
 loop-again c =
     let at-loop = c .before .before .before .before .before in
-    let v = at-loop .before .before .before .args .val .now in (
+    let v = at-loop .before .before .before .before .before .before .args .val .now in (
       search needs,
       search needs,
       ap₂ (λ t x. set t (at-loop .loop .j) x) (at-loop .loop .inv .2) (c .blend .ensures) ∙ stored-more _ v (at-loop .loop .j) (search needs),
     )
 
-same-length : tie.Need-same-length Inv-loop μ-loop
-same-length c = search needs
-
 returns : tie.Need-returns Inv-loop μ-loop
 returns c =
-    let v = c .before .before .before .before .args .val .now in
+    let v = c .before .before .before .before .before .before .before .args .val .now in
     let whole : c .before .loop .j ≡ length v = omega arith in
     c .before .loop .inv .2 ∙ ap (stored _ v) whole ∙ stored-all _ v (length v) refl
 
@@ -88,21 +43,24 @@ blend-run-spec =
     (tie.spec
     Inv-loop
     μ-loop
+    (λ c. search needs)
+    (λ c. search needs)
+    (λ c. search needs)
     loop-holds
-    add-blend
-    mul-blend
-    shared-slice-read-blend
-    add-blend-2
-    mul-blend-2
-    shared-slice-read-blend-2
-    add-blend-3
-    mul-blend-3
-    shared-slice-read-blend-3
-    blend-requires
-    mul-val
-    slice-write-val
-    add-j
-    loop-less
+    (λ c. search needs)
+    (λ c. search needs)
+    (λ c. search needs)
+    (λ c. search needs)
+    (λ c. search needs)
+    (λ c. search needs)
+    (λ c. search needs)
+    (λ c. search needs)
+    (λ c. search needs)
+    (λ c κs. search needs)
+    (λ c. search needs)
+    (λ c. search needs)
+    (λ c. search needs)
+    (λ c. search needs)
     loop-again
-    same-length
+    (λ c. search needs)
     returns)

@@ -4,10 +4,11 @@ use mathlib.Core.Path.{_≡_, refl, _∙_}
 use native.Mathlib.Nat.{zero-mul}
 use lib.ListN.{length}
 use Rattle.meshes.specs.View.{viewOf}
-use Rattle.values.specs.Pass.{image, vertices}
+use Rattle.pixel_rays.specs.Rays.{image}
+use Rattle.vertex_values.specs.Pass.{vertices}
 use Rattle.values.specs.Interpolate.{valueIn, interpolated}
-use Rattle.values.specs.Steps.{filled}
-use Rattle.values.specs.Laws.Filled.{filled-none}
+use Rattle.values.specs.Filled.{filled}
+use Rattle.values.specs.Laws.{filled-none}
 use Rattle.values.proofs.Values.{rows-more, rows-all}
 use Rattle.values.proofs.fill.image_values.Statement.{statement}
 use Rattle.values.proofs.fill.image_values.Tie as tie
@@ -27,12 +28,6 @@ row-values-requires : tie.Need-row-values-requires Inv-loop μ-loop
 row-values-requires c κs =
     let start = c .before .before .before .before .before .before .before .before in
     (start .pre .0, (start .pre .1 .0, (c .before .before .loop .inv .1 ∙ start .pre .1 .1, search needs)))
-
-add-iy : tie.Need-add-iy Inv-loop μ-loop
-add-iy c = search needs
-
-loop-less : tie.Need-loop-less Inv-loop μ-loop
-loop-less c = search needs
 
 loop-again : tie.Need-loop-again Inv-loop μ-loop
 loop-again c =
@@ -59,8 +54,8 @@ image-values-spec =
     μ-loop
     loop-holds
     row-values-requires
-    add-iy
-    loop-less
+    (λ c. search needs)
+    (λ c. search needs)
     loop-again
     same-length
     returns)

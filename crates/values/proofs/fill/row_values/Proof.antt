@@ -4,15 +4,16 @@ use mathlib.Core.Path.{_≡_, refl}
 use native.Mathlib.Nat.{zero-mul}
 use native.Mathlib.Omega.{arith}
 use lib.ListN.{length}
-use Rattle.questions.specs.Laws.{area}
+use Rattle.lists.specs.Laws.Every.{row-below}
 use Rattle.meshes.specs.View.{viewOf}
-use Rattle.values.specs.Pass.{image, vertices}
+use Rattle.meshes.specs.Laws.{entry-named}
+use Rattle.pixel_rays.specs.Rays.{image}
+use Rattle.vertex_values.specs.Pass.{vertices}
+use Rattle.vertex_values.specs.Laws.{run-at}
 use Rattle.values.specs.Interpolate.{valueIn}
-use Rattle.values.specs.Steps.{filled}
-use Rattle.values.specs.Laws.Ranges.{row-below}
-use Rattle.values.specs.Laws.Pixels.{run-at}
-use Rattle.values.specs.Laws.Filled.{filled-none, filled-ended, length-lent}
-use Rattle.values.proofs.Values.{row-more, row-length}
+use Rattle.values.specs.Filled.{filled}
+use Rattle.values.specs.Laws.{filled-none, filled-ended, length-lent}
+use Rattle.values.proofs.Values.{row-more}
 use Rattle.values.proofs.fill.row_values.Statement.{statement}
 use Rattle.values.proofs.fill.row_values.Tie as tie
 
@@ -25,120 +26,94 @@ abbrev μ-loop : tie.MeasureT-loop
 μ-loop pix2val₀ w h iy pix2tri tri2vtx vtx2xyz c vtx2val m y base ix₀ pix2val ix = w - ix
 
 row-at-requires : tie.Need-row-at-requires Inv-loop μ-loop
-row-at-requires c κs = (omega (arith, c .before .before .before .before .before .pre .1 .0 .sized .h-most), omega (arith, c .before .before .before .before .before .pre .1 .0 .sized .h-most))
+row-at-requires c κs = let k = c .before .before .before .before .before .pre .0 .size in (omega arith, omega arith)
 
 mul-base : tie.Need-mul-base Inv-loop μ-loop
 mul-base c =
-    let start = c .before .before .before .before .before .before in
-    record { fits = omega (arith, row-below (start .args .w) (start .args .h) (start .args .iy) (start .pre .1 .1 .1), area 1 (start .args .w) (start .args .h) (start .pre .1 .0 .sized)) }
+    let s = c .before .before .before .before .before .before in
+    let whole = s .pre .0 .whole in
+    record { fits = omega (arith, row-below (s .args .w) (s .args .h) (s .args .iy) (s .pre .1 .1 .1)) }
 
 loop-holds : tie.Need-loop-holds Inv-loop μ-loop
 loop-holds c = (search needs, refl, rw (zero-mul _) (filled-none _ _ _))
 
 column-at-requires : tie.Need-column-at-requires Inv-loop μ-loop
-column-at-requires c κs = (omega (arith, c .before .before .before .before .before .before .before .before .pre .1 .0 .sized .w-most), omega (arith, c .before .before .before .before .before .before .before .before .pre .1 .0 .sized .w-most))
+column-at-requires c κs = let k = c .before .before .before .before .before .before .before .before .pre .0 .size in (omega arith, omega arith)
 
 add-p : tie.Need-add-p Inv-loop μ-loop
 add-p c =
-    let start = c .before .before .before .before .before .before .before .before .before in
-    let k = run-at {ix = c .before .before .loop .ix} (start .pre .1 .0 .sized) (start .pre .0 .channels) (search needs) (start .pre .1 .1 .1) in
-    let whole = start .pre .1 .1 .0 in
+    let s = c .before .before .before .before .before .before .before .before .before in
+    let k = run-at {ix = c .before .before .loop .ix} (s .args .c) (s .pre .0 .whole) (s .pre .1 .1 .0) (search needs) (s .pre .1 .1 .1) in
     record { fits = omega arith }
 
 mul-at : tie.Need-mul-at Inv-loop μ-loop
 mul-at c =
-    let start = c .before .before .before .before .before .before .before .before .before in
-    let k = run-at {ix = c .before .before .loop .ix} (start .pre .1 .0 .sized) (start .pre .0 .channels) (search needs) (start .pre .1 .1 .1) in
-    let whole = start .pre .1 .1 .0 in
+    let s = c .before .before .before .before .before .before .before .before .before in
+    let k = run-at {ix = c .before .before .loop .ix} (s .args .c) (s .pre .0 .whole) (s .pre .1 .1 .0) (search needs) (s .pre .1 .1 .1) in
     record { fits = omega arith }
 
 add-end : tie.Need-add-end Inv-loop μ-loop
 add-end c =
-    let start = c .before .before .before .before .before .before .before .before .before in
-    let k = run-at {ix = c .before .before .loop .ix} (start .pre .1 .0 .sized) (start .pre .0 .channels) (search needs) (start .pre .1 .1 .1) in
-    let whole = start .pre .1 .1 .0 in
+    let s = c .before .before .before .before .before .before .before .before .before in
+    let k = run-at {ix = c .before .before .loop .ix} (s .args .c) (s .pre .0 .whole) (s .pre .1 .1 .0) (search needs) (s .pre .1 .1 .1) in
     record { fits = omega arith }
 
 mul-pixel-values : tie.Need-mul-pixel-values Inv-loop μ-loop
 mul-pixel-values c =
-    let start = c .before .before .before .before .before .before .before .before .before in
-    let k = run-at {ix = c .before .before .loop .ix} (start .pre .1 .0 .sized) (start .pre .0 .channels) (search needs) (start .pre .1 .1 .1) in
-    let whole = start .pre .1 .1 .0 in
+    let s = c .before .before .before .before .before .before .before .before .before in
+    let k = run-at {ix = c .before .before .loop .ix} (s .args .c) (s .pre .0 .whole) (s .pre .1 .1 .0) (search needs) (s .pre .1 .1 .1) in
     record { fits = omega arith }
 
 sub-pixel-values : tie.Need-sub-pixel-values Inv-loop μ-loop
-sub-pixel-values c =
-    let start = c .before .before .before .before .before .before .before .before .before in
-    let k = run-at {ix = c .before .before .loop .ix} (start .pre .1 .0 .sized) (start .pre .0 .channels) (search needs) (start .pre .1 .1 .1) in
-    let whole = start .pre .1 .1 .0 in
-    omega arith
+sub-pixel-values c = omega arith
 
 part-pixel-values-start : tie.Need-part-pixel-values-start Inv-loop μ-loop
 part-pixel-values-start c =
-    let start = c .before .before .before .before .before .before .before .before .before in
-    let k = run-at {ix = c .before .before .loop .ix} (start .pre .1 .0 .sized) (start .pre .0 .channels) (search needs) (start .pre .1 .1 .1) in
-    let whole = start .pre .1 .1 .0 in
+    let s = c .before .before .before .before .before .before .before .before .before in
+    let k = run-at {ix = c .before .before .loop .ix} (s .args .c) (s .pre .0 .whole) (s .pre .1 .1 .0) (search needs) (s .pre .1 .1 .1) in
     omega (arith, c .before .before .loop .inv .1)
 
 part-pixel-values-end : tie.Need-part-pixel-values-end Inv-loop μ-loop
 part-pixel-values-end c =
-    let start = c .before .before .before .before .before .before .before .before .before in
-    let k = run-at {ix = c .before .before .loop .ix} (start .pre .1 .0 .sized) (start .pre .0 .channels) (search needs) (start .pre .1 .1 .1) in
-    let whole = start .pre .1 .1 .0 in
+    let s = c .before .before .before .before .before .before .before .before .before in
+    let k = run-at {ix = c .before .before .loop .ix} (s .args .c) (s .pre .0 .whole) (s .pre .1 .1 .0) (search needs) (s .pre .1 .1 .1) in
     omega (arith, c .before .before .loop .inv .1)
 
 mul-pixel-values-2 : tie.Need-mul-pixel-values-2 Inv-loop μ-loop
 mul-pixel-values-2 c =
-    let start = c .before .before .before .before .before .before .before .before .before .before in
-    let k = run-at {ix = c .before .before .before .loop .ix} (start .pre .1 .0 .sized) (start .pre .0 .channels) (search needs) (start .pre .1 .1 .1) in
-    let whole = start .pre .1 .1 .0 in
+    let s = c .before .before .before .before .before .before .before .before .before .before in
+    let k = run-at {ix = c .before .before .before .loop .ix} (s .args .c) (s .pre .0 .whole) (s .pre .1 .1 .0) (search needs) (s .pre .1 .1 .1) in
     record { fits = omega arith }
 
 shared-slice-read-pixel-values : tie.Need-shared-slice-read-pixel-values Inv-loop μ-loop
 shared-slice-read-pixel-values c =
-    let start = c .before .before .before .before .before .before .before .before .before .before .before in
-    let k = run-at {ix = c .before .before .before .before .loop .ix} (start .pre .1 .0 .sized) (start .pre .0 .channels) (search needs) (start .pre .1 .1 .1) in
-    let whole = start .pre .1 .1 .0 in
-    omega (arith, start .pre .1 .0 .whole)
+    let s = c .before .before .before .before .before .before .before .before .before .before .before in
+    let k = run-at {ix = c .before .before .before .before .loop .ix} (s .args .c) (s .pre .0 .whole) (s .pre .1 .1 .0) (search needs) (s .pre .1 .1 .1) in
+    omega arith
 
 pixel-values-requires : tie.Need-pixel-values-requires Inv-loop μ-loop
 pixel-values-requires c κs =
-    let start = c .before .before .before .before .before .before .before .before .before .before .before in
-    let ix = c .before .before .before .before .loop .ix in
-    let w = start .args .w in
-    let n = start .args .c in
-    let k = run-at {ix = ix} (start .pre .1 .0 .sized) (start .pre .0 .channels) (search needs) (start .pre .1 .1 .1) in
-    let whole = start .pre .1 .1 .0 in (
-      start .pre .0,
-      (start .pre .1 .0 .entries (start .args .iy * w + ix) (k .below), length-lent ((start .args .iy * w + ix) * n) n (c .before .before .before .before .loop .pix2val) (omega (arith, c .before .before .before .before .loop .inv .1))),
+    let at = c .before .before .before .before in
+    let s = at .before .before .before .before .before .before .before in
+    let k = run-at {ix = at .loop .ix} (s .args .c) (s .pre .0 .whole) (s .pre .1 .1 .0) (search needs) (s .pre .1 .1 .1) in
+    let same = at .loop .inv .1 in (
+      s .pre .0 .mesh,
+      (s .pre .1 .0, (entry-named (s .pre .0) _ (omega (arith, s .pre .0 .whole)), length-lent _ (s .args .c) (at .loop .pix2val) (omega arith))),
     )
-
-add-ix : tie.Need-add-ix Inv-loop μ-loop
-add-ix c = search needs
-
-loop-less : tie.Need-loop-less Inv-loop μ-loop
-loop-less c = search needs
 
 loop-again : tie.Need-loop-again Inv-loop μ-loop
 loop-again c =
-    let start = c .before .before .before .before .before .before .before .before .before .before .before .before .before .before in
-    let ix = c .before .before .before .before .before .before .before .loop .ix in
-    let w = start .args .w in
-    let n = start .args .c in
-    let k = run-at {ix = ix} (start .pre .1 .0 .sized) (start .pre .0 .channels) (search needs) (start .pre .1 .1 .1) in
-    let whole = start .pre .1 .1 .0 in
     let column = c .before .before .before .before .before in
-    let at-loop = column .before .before in
-    let e : (start .args .iy * w + ix) * n + n - (start .args .iy * w + ix) * n ≡ n = omega arith in
-    let with-facts = row-more w (start .args .h) (start .args .m .now) (vertices (start .args .vtx2xyz .now) n (start .args .vtx2val .now)) (start .args .tri2vtx .now)
-    (start .args .pix2tri .now) (start .args .iy) ix (search needs) (omega (arith, start .pre .1 .0 .whole)) _ _ (start .args .pix2val .now) _ _ _ (start .pre .1 .1 .1) whole e (column .column-at .ensures)
-    (at-loop .before .row-at .ensures) (at-loop .loop .inv .2) (c .before .before .pixel-values .ensures)
+    let at = column .before .before in
+    let s = at .before .before .before .before .before .before .before in
+    let k = run-at {ix = at .loop .ix} (s .args .c) (s .pre .0 .whole) (s .pre .1 .1 .0) (search needs) (s .pre .1 .1 .1) in
+    let p = s .args .iy * s .args .w + at .loop .ix in
+    let own : p * s .args .c + s .args .c - p * s .args .c ≡ s .args .c = omega arith in
+    let t = row-more (s .args .w) (s .args .h) (s .args .m .now) (vertices (s .args .vtx2xyz .now) (s .args .c) (s .args .vtx2val .now)) (s .args .tri2vtx .now) (s .args .pix2tri .now)
+    (s .args .iy) (at .loop .ix) (search needs) (k .entry) _ _ (column .column-at .ensures) (at .before .row-at .ensures) _ _ _ own (c .before .before .pixel-values .ensures)
+    (s .args .pix2val .now) (k .run) (at .loop .inv .2)
     in
-    let length-is = row-length w (start .args .h) (start .args .m .now) (vertices (start .args .vtx2xyz .now) n (start .args .vtx2val .now)) (start .args .tri2vtx .now)
-    (start .args .pix2tri .now) (start .args .iy) ix (search needs) (omega (arith, start .pre .1 .0 .whole)) _ _ (start .args .pix2val .now) _ _ _ (start .pre .1 .1 .1) whole e (column .column-at .ensures)
-    (at-loop .before .row-at .ensures) (at-loop .loop .inv .2) (c .before .before .pixel-values .ensures)
-    in
-    (search needs, length-is, with-facts)
+    (search needs, t .0, t .1)
 
 same-length : tie.Need-same-length Inv-loop μ-loop
 same-length c = c .before .loop .inv .1
@@ -166,8 +141,8 @@ row-values-spec =
     mul-pixel-values-2
     shared-slice-read-pixel-values
     pixel-values-requires
-    add-ix
-    loop-less
+    (λ c. search needs)
+    (λ c. search needs)
     loop-again
     same-length
     returns)

@@ -1,0 +1,3 @@
+-- Lemmas that several proofs cite.
+pub mod Reaching
+pub mod Scans

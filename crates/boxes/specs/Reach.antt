@@ -1,0 +1,28 @@
+-- The columns or rows of a box: from the first whose centre is not before the box to the first past it.
+use Prim.Native.Nat.{ℕ, _≤_, _<_}
+use mathlib.Core.Path.{_≡_}
+use mathlib.Core.Bool.{Bool, true, false, not}
+use lib.Ieee.{Float, le}
+use Rattle.pixels.specs.Pixel.{centre}
+use Rattle.rules.specs.Scan.{spans}
+use Rattle.rules.specs.Laws.Finite.{allFinite}
+
+-- centre i has come to the box's lower end x; or, past its upper end x
+unfoldable pub reached : Bool → Float → ℕ → Bool
+reached true x i = le x (centre i)
+reached false x i = not (le (centre i) x)
+
+-- r is at most n, and none before it has reached x
+pub record Settled (lower : Bool) (x : Float) (n r : ℕ) : Type 0 where
+  pub within : r ≤ n
+  pub before : (i : ℕ) → i < r → reached lower x i ≡ false
+
+-- r is the first of n columns or rows that has reached x, or n
+pub record FirstReached (lower : Bool) (x : Float) (n r : ℕ) : Type 0 where
+  pub within : r ≤ n
+  pub before : (i : ℕ) → i < r → reached lower x i ≡ false
+  pub after : (i : ℕ) → r ≤ i → i < n → reached lower x i ≡ true
+
+-- Of three coordinates one is not finite, or none of n centres lies in their closed box: a piece with them brings none of the n anything.
+unfoldable pub Misses : Float → Float → Float → ℕ → Type 0
+Misses a b c n = allFinite a b c ≡ true → (i : ℕ) → i < n → spans a b c (centre i) ≡ false

@@ -1,0 +1,119 @@
+// The box of a piece: its corners on the screen, and the columns and rows of the image that its scan visits. Values in, values out: no layer is known here.
+
+mod axis;
+mod reach;
+
+ghost use mathlib.Core.Path.{_≡_};
+ghost use mathlib.Core.Bool.{false};
+ghost use mathlib.Core.List.{[]};
+ghost use Prim.Native.Nat.{ℕ, _≤_, _<_};
+ghost use Rattle.questions.specs.Laws.{Sized};
+ghost use Rattle.rules.specs.Scan as rule;
+ghost use Rattle.pieces.specs.Answer.{pieceOf};
+ghost use Rattle.boxes.specs.Answer.{screenOf};
+ghost use Rattle.boxes.specs.Box.{Scanned};
+
+// A piece on the screen: pixel coordinates and depths of its corners.
+pub struct Screen {
+    pub x0: f32,
+    pub y0: f32,
+    pub z0: f32,
+    pub x1: f32,
+    pub y1: f32,
+    pub z1: f32,
+    pub x2: f32,
+    pub y2: f32,
+    pub z2: f32,
+}
+
+// Columns x0 to x1 and rows y0 to y1, without x1 and y1.
+pub struct Box {
+    pub x0: usize,
+    pub x1: usize,
+    pub y0: usize,
+    pub y1: usize,
+}
+
+// The column in pixels, not whole, of a corner with coordinate x.
+fn column(w: usize, x: f32) -> f32
+    requires { ⌜ w ≤ 4096 ⌝ }
+    ensures { λ r. ⌜ r ≡ rule.column w x ⌝ }
+{
+    (x + 1.0) * 0.5 * pixels::as_float(w)
+}
+
+// The row in pixels of a corner with coordinate y.
+fn row(h: usize, y: f32) -> f32
+    requires { ⌜ h ≤ 4096 ⌝ }
+    ensures { λ r. ⌜ r ≡ rule.row h y ⌝ }
+{
+    (1.0 - y) * 0.5 * pixels::as_float(h)
+}
+
+// Whether a pixel of the image can have anything of the piece. Faces off the image leave early: the columns are tested before the rows are worked out.
+pub fn meets_image(w: usize, h: usize, ndc: [[f32; 3]; 3]) -> bool
+    requires { ⌜ Sized 1 w h ⌝ }
+    ensures { λ r. ⌜ (r ≡ false → (ix iy : ℕ) → ix < w → iy < h → rule.candidate (rule.screened w h (pieceOf ndc)) ix iy ≡ []) ⌝ }
+{
+    let x0 = column(w, ndc[0][0]);
+    let x1 = column(w, ndc[1][0]);
+    let x2 = column(w, ndc[2][0]);
+    if !axis::spans_centre(x0, x1, x2, w) {
+        return false;
+    }
+    let y0 = row(h, ndc[0][1]);
+    let y1 = row(h, ndc[1][1]);
+    let y2 = row(h, ndc[2][1]);
+    axis::spans_centre(y0, y1, y2, h)
+}
+
+pub fn screened(w: usize, h: usize, ndc: [[f32; 3]; 3]) -> Screen
+    requires { ⌜ w ≤ 4096 ⌝ }
+    requires { ⌜ h ≤ 4096 ⌝ }
+    ensures { λ r. ⌜ screenOf r ≡ rule.screened w h (pieceOf ndc) ⌝ }
+{
+    Screen {
+        x0: column(w, ndc[0][0]),
+        y0: row(h, ndc[0][1]),
+        z0: ndc[0][2],
+        x1: column(w, ndc[1][0]),
+        y1: row(h, ndc[1][1]),
+        z1: ndc[1][2],
+        x2: column(w, ndc[2][0]),
+        y2: row(h, ndc[2][1]),
+        z2: ndc[2][2],
+    }
+}
+
+// The box that the scan of a piece visits: of no column and no row, where it visits no pixel.
+pub fn box_of(w: usize, h: usize, s: Screen) -> Box
+    requires { ⌜ w ≤ 4096 ⌝ }
+    requires { ⌜ h ≤ 4096 ⌝ }
+    ensures { λ r. ⌜ Scanned (screenOf s) w h r ⌝ }
+{
+    let lx = axis::least(s.x0, s.x1, s.x2);
+    let hx = axis::greatest(s.x0, s.x1, s.x2);
+    let x0 = reach::first_reached(true, lx, w);
+    let x1 = reach::first_reached(false, hx, w);
+    if x1 <= x0 {
+        return Box {
+            x0: 0,
+            x1: 0,
+            y0: 0,
+            y1: 0,
+        };
+    }
+    let ly = axis::least(s.y0, s.y1, s.y2);
+    let hy = axis::greatest(s.y0, s.y1, s.y2);
+    let y0 = reach::first_reached(true, ly, h);
+    let y1 = reach::first_reached(false, hy, h);
+    if y1 <= y0 {
+        return Box {
+            x0: 0,
+            x1: 0,
+            y0: 0,
+            y1: 0,
+        };
+    }
+    Box { x0, x1, y0, y1 }
+}

@@ -1,0 +1,14 @@
+use Rattle.crossings.specs.Crossing.{magnitude}
+use Rattle.crossings.proofs.magnitude.Statement.{statement}
+use Rattle.crossings.proofs.magnitude.Tie as tie
+
+returns : tie.Need-returns
+unfolding magnitude
+returns c = rw (c .if1 .taken)
+
+returns-2 : tie.Need-returns-2
+unfolding magnitude
+returns-2 c = rw (c .if1 .left)
+
+pub magnitude-spec : {M : Type 1} → statement M
+magnitude-spec = tie.close (tie.spec returns returns-2)

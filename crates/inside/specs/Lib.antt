@@ -1,0 +1,6 @@
+-- When a face contains a point of the image: the tests of both edge passes.
+pub mod Inside
+pub mod Answer
+pub mod Steps
+-- proved of the definitions above
+pub mod Laws

@@ -1,0 +1,166 @@
+// A face as the matrix projects it, and the tests of both edge passes whether it contains a point. No function here is a public call.
+
+ghost use mathlib.Core.Path.{_≡_};
+ghost use mathlib.Core.Bool.{true};
+ghost use Prim.Native.Nat.{_+_, _*_, _/_, _<_};
+ghost use lib.ListN.{length, getD};
+ghost use Rattle.questions.specs.Questions.{namesFace};
+ghost use Rattle.geometry.specs.Vector.{weights};
+ghost use Rattle.geometry.specs.Answer.{point2, projectionOf, weightsOf};
+ghost use Rattle.geometry.specs.Leaf.{project};
+ghost use Rattle.meshes.specs.Mesh.{faceAt, vertexAt};
+ghost use Rattle.meshes.specs.View.{named};
+ghost use Rattle.inside.specs.Inside as spec;
+ghost use Rattle.inside.specs.Answer.{projectedFaceOf};
+ghost use Rattle.meshes.specs.Sound.{SoundMesh};
+ghost use Rattle.inside.specs.Steps.{allProject};
+use geometry::CornerWeights;
+use geometry::Projected;
+use geometry::Projection;
+use geometry::Vec2;
+
+// The projected corners of a face, or nothing where one has no projection.
+pub enum ProjectedFace {
+    Corners(Projected, Projected, Projected),
+    Nowhere,
+}
+
+fn all_at_least_zero(b0: f32, b1: f32, b2: f32) -> bool
+    ensures { λ r. ⌜ r ≡ spec.allAtLeastZero (weights b0 b1 b2) ⌝ }
+{
+    if b0 >= 0.0 {
+        if b1 >= 0.0 {
+            return b2 >= 0.0;
+        }
+    }
+    false
+}
+
+fn all_at_most_zero(b0: f32, b1: f32, b2: f32) -> bool
+    ensures { λ r. ⌜ r ≡ spec.allAtMostZero (weights b0 b1 b2) ⌝ }
+{
+    if b0 <= 0.0 {
+        if b1 <= 0.0 {
+            return b2 <= 0.0;
+        }
+    }
+    false
+}
+
+// A point is inside when its weights are all >= 0 or all <= 0, or there are none.
+fn inside(b: CornerWeights) -> bool
+    ensures { λ r. ⌜ r ≡ spec.inside (weightsOf b) ⌝ }
+{
+    let CornerWeights::Three(b0, b1, b2) = b else {
+        return true;
+    };
+    if all_at_least_zero(b0, b1, b2) {
+        return true;
+    }
+    all_at_most_zero(b0, b1, b2)
+}
+
+// The test of `bwd`: the weights are all >= 0, and none means outside.
+pub fn all_inside(b: CornerWeights) -> bool
+    ensures { λ r. ⌜ r ≡ spec.allInside (weightsOf b) ⌝ }
+{
+    let CornerWeights::Three(b0, b1, b2) = b else {
+        return false;
+    };
+    all_at_least_zero(b0, b1, b2)
+}
+
+// The projection of the vertex that a face has at place j of the face list.
+fn corner(tri2vtx: &[u32], vtx2xyz: &[f32], m: &[f32; 16], j: usize) -> Projection
+    requires { ⌜ SoundMesh (now tri2vtx) (now vtx2xyz) ⌝ }
+    requires { ⌜ j < length (now tri2vtx) ⌝ }
+    ensures { λ r. ⌜ projectionOf r ≡ project (now (m .entry)) (vertexAt (now (vtx2xyz .entry)) (getD (now (tri2vtx .entry)) j 0)) ⌝ }
+{
+    geometry::project(m, meshes::vertex(vtx2xyz, tri2vtx[j] as usize))
+}
+
+fn project_face(tri2vtx: &[u32], vtx2xyz: &[f32], m: &[f32; 16], face: usize) -> ProjectedFace
+    requires { ⌜ SoundMesh (now tri2vtx) (now vtx2xyz) ⌝ }
+    requires { ⌜ face < length (now tri2vtx) / 3 ⌝ }
+    ensures { λ r. ⌜ projectedFaceOf r ≡ spec.projectFace (now (m .entry)) (now (vtx2xyz .entry)) (faceAt (now (tri2vtx .entry)) face) ⌝ }
+{
+    let i = 3 * face;
+    let Projection::At(p0) = corner(tri2vtx, vtx2xyz, m, i) else {
+        return ProjectedFace::Nowhere;
+    };
+    let Projection::At(p1) = corner(tri2vtx, vtx2xyz, m, i + 1) else {
+        return ProjectedFace::Nowhere;
+    };
+    let Projection::At(p2) = corner(tri2vtx, vtx2xyz, m, i + 2) else {
+        return ProjectedFace::Nowhere;
+    };
+    ProjectedFace::Corners(p0, p1, p2)
+}
+
+// The weights of q in a projected face.
+fn weights_in(q: Vec2, f: ProjectedFace) -> CornerWeights
+    ensures { λ r. ⌜ weightsOf r ≡ spec.weightsIn (point2 q) (projectedFaceOf f) ⌝ }
+{
+    let ProjectedFace::Corners(a, b, c) = f else {
+        return CornerWeights::Nothing;
+    };
+    geometry::corner_weights(
+        q,
+        Vec2 { x: a.x, y: a.y },
+        Vec2 { x: b.x, y: b.y },
+        Vec2 { x: c.x, y: c.y },
+    )
+}
+
+// Does what a map's entry names contain the point q? An empty entry does.
+pub fn contains(tri2vtx: &[u32], vtx2xyz: &[f32], m: &[f32; 16], entry: u32, q: Vec2) -> bool
+    requires { ⌜ SoundMesh (now tri2vtx) (now vtx2xyz) ⌝ }
+    requires { ⌜ namesFace (length (now tri2vtx) / 3) entry ≡ true ⌝ }
+    ensures { λ r. ⌜ r ≡ spec.contains spec.inside (now (m .entry)) (now (vtx2xyz .entry)) (named (now (tri2vtx .entry)) entry) (point2 q) ⌝ }
+{
+    if entry == questions::EMPTY {
+        return true;
+    }
+    inside(weights_in(q, project_face(tri2vtx, vtx2xyz, m, entry as usize)))
+}
+
+// Has vertex number `v` a projection?
+fn vertex_projects(vtx2xyz: &[f32], m: &[f32; 16], v: usize) -> bool
+    requires { ⌜ 3 * v + 2 < length (now vtx2xyz) ⌝ }
+    ensures { λ r. ⌜ r ≡ spec.present (project (now (m .entry)) (vertexAt (now (vtx2xyz .entry)) v)) ⌝ }
+{
+    match geometry::project(m, meshes::vertex(vtx2xyz, v)) {
+        Projection::At(_) => true,
+        Projection::Nowhere => false,
+    }
+}
+
+// Has every vertex a projection?
+pub fn all_project(vtx2xyz: &[f32], m: &[f32; 16]) -> bool
+    ensures { λ r. ⌜ r ≡ allProject (now (m .entry)) (now (vtx2xyz .entry)) ⌝ }
+{
+    let n = vtx2xyz.len() / 3;
+    let mut v = 0;
+    while v < n {
+        if !vertex_projects(vtx2xyz, m, v) {
+            return false;
+        }
+        v += 1;
+    }
+    true
+}
+
+// Has what a map's entry names every projection? An empty entry has none to ask.
+pub fn projects(tri2vtx: &[u32], vtx2xyz: &[f32], m: &[f32; 16], entry: u32) -> bool
+    requires { ⌜ SoundMesh (now tri2vtx) (now vtx2xyz) ⌝ }
+    requires { ⌜ namesFace (length (now tri2vtx) / 3) entry ≡ true ⌝ }
+    ensures { λ r. ⌜ r ≡ spec.projects (now (m .entry)) (now (vtx2xyz .entry)) (named (now (tri2vtx .entry)) entry) ⌝ }
+{
+    if entry == questions::EMPTY {
+        return true;
+    }
+    match project_face(tri2vtx, vtx2xyz, m, entry as usize) {
+        ProjectedFace::Corners(_, _, _) => true,
+        ProjectedFace::Nowhere => false,
+    }
+}

@@ -1,0 +1,38 @@
+-- `lanes::lane`: the same tests after the work as `depth_at` has before it.
+use borrow.Author.Needs.{needs}
+use Rattle.geometry.specs.Arith.{floats}
+use Rattle.geometry.specs.Vector.{vec2}
+use Rattle.geometry.specs.Formula.{areas, total, shares}
+use Rattle.geometry.specs.Leaf.{cornerWeights, weighedAll}
+use Rattle.rules.specs.Scan.{depthAt}
+use Rattle.boxes.specs.Answer.{screenOf}
+use Rattle.lanes.proofs.Lanes.{lane-is}
+use Rattle.lanes.proofs.lane.Statement.{statement}
+use Rattle.lanes.proofs.lane.Tie as tie
+
+returns : tie.Need-returns
+unfolding depthAt cornerWeights weighedAll areas total shares
+returns c =
+    let a = c .before .before .before .before .before .before .before .before .args in
+    let q = vec2 (a .qx) (a .qy) in
+    let p0 = vec2 (a .s .x0) (a .s .y0) in
+    let p1 = vec2 (a .s .x1) (a .s .y1) in
+    let p2 = vec2 (a .s .x2) (a .s .y2) in
+    rw (
+      c .unless3 .ensures,
+      c .before .unless2 .ensures,
+      c .before .before .unless .ensures,
+      c .before .before .before .dropped .ensures,
+      c .before .before .before .before .blend .ensures,
+      c .before .before .before .before .before .before .before .cross2 .ensures,
+      c .before .before .before .before .before .before .cross22 .ensures,
+      c .before .before .before .before .before .cross23 .ensures,
+    )
+    (lane-is (screenOf (a .s)) (areas floats q p0 p1 p2) (total floats (areas floats q p0 p1 p2)))
+
+pub lane-spec : {M : Type 1} → statement M
+lane-spec =
+    tie.close
+    (tie.spec
+    (λ c κs. search needs) (λ c κs. search needs) (λ c κs. search needs) (λ c κs. search needs) (λ c κs. search needs) (λ c κs. search needs)
+    (λ c κs. search needs) (λ c κs. search needs) returns)

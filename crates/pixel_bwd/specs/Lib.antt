@@ -1,0 +1,5 @@
+-- 01, "Values and their backward pass": what one pixel adds in `interpolate_bwd`.
+pub mod Gather
+pub mod Additions
+-- proved of the definitions above
+pub mod Laws

@@ -1,0 +1,2 @@
+-- Question 9 asked of pixels.
+pub mod Steps

@@ -1,0 +1,58 @@
+-- The scene of 01's examples: the identity matrix, the faces T(z), and a 2 × 2 drawing that computes.
+use Prim.Native.Nat.{ℕ}
+use mathlib.Core.List.{List, [], _∷_}
+use lib.Ieee.{Float, binary32, ofBits, ofInt, add, sub, mul, div, neg, lt, le, eq}
+use Rattle.lists.specs.Lists.{tabulate, every}
+use Rattle.questions.specs.Questions.{Outcome, empty, firstNo, sizes, groups, numbers, exact}
+use Rattle.offers.specs.Offer.{lowest, offered, pick, exceeds}
+use Rattle.offers.specs.Offers as any
+use Rattle.offers.specs.Offers.{numbered}
+use Rattle.layers.specs.Layer.{Layer, layer}
+use Rattle.geometry.specs.Formula.{cross2, areas, total, shares, blend, row, over}
+use Rattle.geometry.specs.Leaf.{finite, weighed, weighedAll, cornerWeights, divided, project}
+use Rattle.meshes.specs.Mesh.{facesOf, vertexAt}
+use Rattle.pixels.specs.Pixel.{centre, centreOf}
+use Rattle.rules.specs.Piece.{scored, whole, behind, anyBehind, cornersPieces, projectedPieces, pieces}
+use Rattle.rules.specs.Scan.{onScreen, screened, lower, upper, least, greatest, spans, between, scans, dropped, kept, weighedDepth, depthAt, candidate}
+use Rattle.rules.specs.Offers.{facePieces, pieceBrings, piecesBring, brings, brought}
+use Rattle.rules.specs.Draw.{painted, drawn}
+use Rattle.rules.specs.Calls.{drawCode, draws}
+
+-- 0, 1, −1, 3, 0.25 and 0.5
+abbrev pub zero : Float
+zero = ofBits binary32 0
+
+abbrev pub one : Float
+one = ofBits binary32 0x3f80_0000
+
+abbrev pub minusOne : Float
+minusOne = ofBits binary32 0xbf80_0000
+
+abbrev pub three : Float
+three = ofBits binary32 0x4040_0000
+
+abbrev pub quarter : Float
+quarter = ofBits binary32 0x3e80_0000
+
+abbrev pub half : Float
+half = ofBits binary32 0x3f00_0000
+
+-- column-major, with m[11] and m[15] as given; the identity has 0 and 1 there
+abbrev pub matrix : Float → Float → List Float
+matrix m11 m15 = one ∷ zero ∷ zero ∷ zero ∷ zero ∷ one ∷ zero ∷ zero ∷ zero ∷ zero ∷ one ∷ m11 ∷ zero ∷ zero ∷ zero ∷ m15 ∷ []
+
+-- T(z): (−1,−1,z), (3,−1,z), (−1,3,z)
+abbrev pub corners : Float → List Float
+corners z = minusOne ∷ minusOne ∷ z ∷ three ∷ minusOne ∷ z ∷ minusOne ∷ three ∷ z ∷ []
+
+-- the same at each of the four pixels
+abbrev pub four : {A : Type 0} → A → List A
+four x = x ∷ x ∷ x ∷ x ∷ []
+
+abbrev pub blank : Layer
+blank = layer (four empty) (four lowest)
+
+-- the faces `tri` drawn from number 0
+unfoldable pub drawing : Layer → List ℕ → List Float → Float → Float → Outcome Layer
+unfolding firstNo sizes groups numbers every exact offered pick exceeds tabulate numbered any.brought facesOf vertexAt cross2 areas total shares blend row over finite weighed weighedAll cornerWeights divided project scored whole behind anyBehind cornersPieces projectedPieces pieces onScreen screened centre centreOf lower upper least greatest spans between scans dropped kept weighedDepth depthAt candidate facePieces pieceBrings piecesBring brings brought painted drawn drawCode draws add sub mul div neg lt le eq ofBits ofInt
+drawing l tri xyz m11 m15 = draws l tri xyz 2 2 (matrix m11 m15) 0

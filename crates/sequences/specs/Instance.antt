@@ -1,0 +1,169 @@
+-- The theorem is not empty: a mesh of four faces, one of which holds no pixel and is taken out; the rest cut into five runs, three of them empty.
+-- The calls come out of order: runs 3 and 4 are joined before 1 and 2 are drawn, with refused calls among them.
+use Prim.Native.Nat.{ℕ, zero, suc, _<_}
+use mathlib.Core.Path.{_≡_, refl, sym, _∙_, ap}
+use mathlib.Core.Bool.{Bool, true, false, not, cond}
+use mathlib.Core.List.{List, [], _∷_, _++_}
+use native.Mathlib.Omega.{arith}
+use lib.Dec.{T, eqb, eqb→eq, lit<}
+use lib.Ieee.{nan}
+use Rattle.questions.specs.Questions.{empty}
+use Rattle.offers.specs.Thinning.{keptFrom}
+use Rattle.offers.specs.Laws.Greatest.{first-of-greatest}
+use Rattle.offers.specs.Laws.Joins.{won}
+use Rattle.offers.specs.Laws.Removal.{with-greatest}
+use Rattle.layers.specs.Cell.{Cell}
+use Rattle.layers.specs.Calls.{clearing, clearCode, joining, joinCode}
+use Rattle.meshes.specs.Mesh.{Face, face, facesOf}
+use Rattle.rules.specs.Offers.{Scene, scene, brought, offers, Holds}
+use Rattle.rules.specs.Calls.{draws}
+use Rattle.sequences.specs.Calls.{Store, Call, clear, draw, join, held, other, whole, after, afterAll}
+use Rattle.sequences.specs.Plan as plan
+use Rattle.sequences.specs.Plan.{flat, joined, Stands, nothing, runs, now, Keeps, over, clears, joins, refused, clearOf, drawOf, joinOf}
+use Rattle.sequences.specs.Case.{Cut, Case}
+use Rattle.sequences.specs.Example as example
+use Rattle.sequences.specs.Example.{matrix, corners, quarter, half, four, drawing}
+
+-- T(0.25), T(0.5), T(0.25), T(0.5): face 1 holds every pixel, face 3 ties with it
+abbrev sc : Scene
+sc = scene (matrix example.zero example.one) (corners quarter ++ corners half) 2 2
+
+abbrev back : Face
+back = face 0 1 2
+
+abbrev front : Face
+front = face 3 4 5
+
+abbrev tri2vtx : List ℕ
+tri2vtx = 0 ∷ 1 ∷ 2 ∷ 3 ∷ 4 ∷ 5 ∷ 0 ∷ 1 ∷ 2 ∷ 3 ∷ 4 ∷ 5 ∷ []
+
+fs : List Face
+fs = back ∷ front ∷ back ∷ front ∷ []
+
+-- face 0 is taken out
+abbrev keep : ℕ → Bool
+keep k = not (eqb k 0)
+
+-- the first run, one in the middle and the last are empty
+abbrev rs : List (List Face)
+rs = [] ∷ (front ∷ []) ∷ [] ∷ (back ∷ front ∷ []) ∷ [] ∷ []
+
+shown : (p : ℕ) → p < 4 → won empty (brought sc fs 0 p) .payload ≡ 1
+unfolding drawing fs
+shown zero h = refl
+shown (suc zero) h = refl
+shown (suc (suc zero)) h = refl
+shown (suc (suc (suc zero))) h = refl
+shown (suc (suc (suc (suc p)))) h = absurd (omega arith)
+
+idle : (i : ℕ) → i < 4 → T (not (keep i)) → (p : ℕ) → p < 4 → Holds sc fs i p → ⊥
+unfolding Holds offers
+idle i l t p h holds =
+    let e : i ≡ 0 = eqb→eq i 0 (twice (eqb i 0) t) in
+    let w = with-greatest (first-of-greatest empty (brought sc fs 0 p)) (holds .1) in
+    let n : holds .0 .payload ≡ 1 = ap (λ (c : Cell). c .payload) (sym w) ∙ shown p h in
+    omega (arith, n, holds .2, e)
+  where
+    twice : (b : Bool) → T (not (not b)) → T b
+    twice true t = t
+    twice false t = t
+
+pub mesh : Cut
+unfolding drawing fs joined keptFrom facesOf
+mesh = record { tri2vtx = tri2vtx; sc = sc; accepted = refl; keep = keep; idle = idle; rs = rs; cut = refl }
+
+-- layers of anything; layer 5 has depths of another length
+abbrev start : Store
+start = record { maps = λ i. four 9; depths = λ i. cond (eqb i 5) (nan ∷ []) (four nan) }
+
+-- refused: a layer joined with itself, at no width; one layer's map with the depths of another, of a wrong length; buffers of nobody
+abbrev ofItself : Call
+ofItself = join (whole 3) (whole 3) 0 2
+
+abbrev mixed : Call
+mixed = clear (record { map = held 0; depth = held 5 }) 2 2
+
+abbrev foreign : Call
+foreign = draw (record { map = other (1 ∷ []); depth = other [] }) tri2vtx (sc .vertices) 2 2 (sc .matrix) 0
+
+-- runs 3, 0 and 4 drawn, 3 joined with 4, then 1 and 2 drawn
+abbrev made : List Call
+made =
+    clearOf sc rs 3
+    ∷ drawOf sc rs 3 3
+    ∷ clearOf sc rs 0
+    ∷ ofItself
+    ∷ drawOf sc rs 0 0
+    ∷ clearOf sc rs 4
+    ∷ mixed
+    ∷ drawOf sc rs 4 4
+    ∷ joinOf sc rs 3 4
+    ∷ clearOf sc rs 1
+    ∷ drawOf sc rs 1 1
+    ∷ foreign
+    ∷ clearOf sc rs 2
+    ∷ drawOf sc rs 2 2
+    ∷ []
+
+-- the layers' stands then
+ready : ℕ → Stands
+ready =
+    now (now (now (now (now (now (now (now (now (now (now (λ i. nothing) 3 plan.blank) 3 (runs 3 1)) 0 plan.blank) 0 (runs 0 1)) 4 plan.blank) 4 (runs 4 1)) 3 (runs 3 2)) 1 plan.blank) 1 (runs 1 1)) 2 plan.blank) 2 (runs 2 1)
+
+apart : {i j : ℕ} → (i < j) → i ≡ j → ⊥
+apart l e = omega arith
+
+not-0 : (n : ℕ) → suc n ≡ 0 → ⊥
+not-0 n e = omega arith
+
+making : (cs : List Call) (g : ℕ → Stands) → Keeps sc rs ready (afterAll start made) cs g → Keeps sc rs (λ i. nothing) start (made ++ cs) g
+unfolding drawing flat joined ready after afterAll clearing clearCode joining joinCode
+making cs g k =
+    clears 3 (record { numbers = refl; depths = refl })
+    (plan.draws 3 3 (lit< tt) refl
+    (clears 0 (record { numbers = refl; depths = refl })
+    (refused ofItself (not-0 0)
+    (plan.draws 0 0 (lit< tt) refl
+    (clears 4 (record { numbers = refl; depths = refl })
+    (refused mixed (not-0 3)
+    (plan.draws 4 4 (lit< tt) refl
+    (joins 3 4 3 1 1 (apart (lit< tt)) refl refl
+    (clears 1 (record { numbers = refl; depths = refl })
+    (plan.draws 1 1 (lit< tt) refl
+    (refused foreign (not-0 3)
+    (clears 2 (record { numbers = refl; depths = refl })
+    (plan.draws 2 2 (lit< tt) refl k)))))))))))))
+
+-- ((0 1) 2) (3 4)
+pub left-first : Case
+unfolding ready mesh
+left-first =
+    record {
+      mesh = mesh;
+      start = start;
+      calls = made ++ joinOf sc rs 0 1 ∷ joinOf sc rs 0 2 ∷ joinOf sc rs 0 3 ∷ [];
+      plan =
+          record {
+            stands = now (now (now ready 0 (runs 0 2)) 0 (runs 0 3)) 0 (runs 0 5);
+            keeps = making _ _ (joins 0 1 0 1 1 (apart (lit< tt)) refl refl (joins 0 2 0 2 1 (apart (lit< tt)) refl refl (joins 0 3 0 3 2 (apart (lit< tt)) refl refl over)));
+            last = 0;
+            remaining = refl;
+          };
+    }
+
+-- 0 (1 (2 (3 4)))
+pub right-first : Case
+unfolding ready mesh
+right-first =
+    record {
+      mesh = mesh;
+      start = start;
+      calls = made ++ joinOf sc rs 2 3 ∷ joinOf sc rs 1 2 ∷ joinOf sc rs 0 1 ∷ [];
+      plan =
+          record {
+            stands = now (now (now ready 2 (runs 2 3)) 1 (runs 1 4)) 0 (runs 0 5);
+            keeps = making _ _ (joins 2 3 2 1 2 (apart (lit< tt)) refl refl (joins 1 2 1 1 3 (apart (lit< tt)) refl refl (joins 0 1 0 1 4 (apart (lit< tt)) refl refl over)));
+            last = 0;
+            remaining = refl;
+          };
+    }

@@ -1,0 +1,141 @@
+-- The theorem for a list cut in two, as the crate `two_runs` meets it by the calls themselves.
+use Prim.Native.Nat.{ℕ, zero, suc, _*_, _/_, _≤_}
+use mathlib.Core.Path.{_≡_, refl, ap, ap₂, sym, _∙_}
+use mathlib.Core.Bool.{Bool, true, false, cond}
+use mathlib.Core.List.{List, [], _∷_, _++_, map, append-nil}
+use native.Mathlib.Omega.{arith}
+use borrow.Author.Tests.{eqb-true}
+use lib.Dec.{eqb, lit<}
+use lib.ListN.{length, take, drop, take-append-drop}
+use Rattle.questions.specs.Questions.{Outcome, outcome, empty}
+use Rattle.offers.specs.Thinning.{keptFrom, keptBefore, renumber}
+use Rattle.layers.specs.Layer.{Layer, layer}
+use Rattle.layers.specs.Steps.{Spans}
+use Rattle.layers.specs.Calls.{clearing, joining}
+use Rattle.meshes.specs.Mesh.{Face, facesOf}
+use Rattle.rules.specs.Offers.{Scene}
+use Rattle.rules.specs.Calls.{drawCode, draws}
+use Rattle.sequences.specs.Calls.{Store, after, afterAll}
+use Rattle.sequences.specs.Plan as plan
+use Rattle.sequences.specs.Plan.{flat, joined, nothing, runs, now, Keeps, over, clears, joins, clearOf, drawOf, joinOf, Accepted}
+use Rattle.sequences.specs.Whole.{pixelCount, cleared, length-flat}
+use Rattle.sequences.specs.Mesh.{answered, threes-of}
+use Rattle.sequences.specs.Case.{Cut, Case, full, final, pictures}
+
+-- ---- lists
+
+flat-take : (c : ℕ) (fs : List Face) → take (3 * c) (flat fs) ≡ flat (take c fs)
+unfolding flat
+flat-take zero fs = refl
+flat-take (suc c) [] = let three : 3 * suc c ≡ suc (suc (suc (3 * c))) = omega arith in rw three
+flat-take (suc c) (f ∷ fs) =
+    let three : 3 * suc c ≡ suc (suc (suc (3 * c))) = omega arith in
+    rw three (ap (λ (l : List ℕ). f .v0 ∷ f .v1 ∷ f .v2 ∷ l) (flat-take c fs))
+
+flat-drop : (c : ℕ) (fs : List Face) → drop (3 * c) (flat fs) ≡ flat (drop c fs)
+unfolding flat
+flat-drop zero fs = refl
+flat-drop (suc c) [] = let three : 3 * suc c ≡ suc (suc (suc (3 * c))) = omega arith in rw three
+flat-drop (suc c) (f ∷ fs) = let three : 3 * suc c ≡ suc (suc (suc (3 * c))) = omega arith in rw three (flat-drop c fs)
+
+taken : (c : ℕ) (fs : List Face) → c ≤ length fs → length (take c fs) ≡ c
+taken zero fs h = refl
+taken (suc c) [] h = absurd (omega arith)
+taken (suc c) (f ∷ fs) h = ap suc (taken c fs (omega arith))
+
+-- no face is taken out
+abbrev every : ℕ → Bool
+every k = true
+
+kept-every : (k : ℕ) (fs : List Face) → keptFrom every k fs ≡ fs
+unfolding keptFrom
+kept-every k [] = refl
+kept-every k (f ∷ fs) = ap (λ (l : List Face). f ∷ l) (kept-every (suc k) fs)
+
+before-every : (k : ℕ) → keptBefore every k ≡ k
+unfolding keptBefore
+before-every zero = refl
+before-every (suc k) = ap suc (before-every k)
+
+renumber-every : (k : ℕ) → renumber empty every k ≡ k
+unfolding renumber
+renumber-every k = go (eqb k empty) refl
+  where
+    go : (b : Bool) → eqb k empty ≡ b → cond b empty (keptBefore every k) ≡ k
+    go true e = sym (eqb-true k empty e)
+    go false e = before-every k
+
+map-every : (ns : List ℕ) → map (renumber empty every) ns ≡ ns
+map-every [] = refl
+map-every (n ∷ ns) = ap₂ _∷_ (renumber-every n) (map-every ns)
+
+-- ---- the case
+
+module _ (sc : Scene) (tri : List ℕ) (count : ℕ) (left right : Layer) (accepted : drawCode (cleared (pixelCount sc)) tri (sc .vertices) (sc .width) (sc .height) 0 ≡ 0) where
+  abbrev fs : List Face
+  fs = facesOf tri
+
+  abbrev rs : List (List Face)
+  rs = take count fs ∷ drop count fs ∷ []
+
+  threes : flat fs ≡ tri
+  threes = threes-of tri (answered (cleared (pixelCount sc)) sc tri 0 accepted .faces)
+
+  cut : joined rs ≡ keptFrom every 0 fs
+  unfolding joined
+  cut = rw append-nil (take-append-drop count fs ∙ sym (kept-every 0 fs))
+
+  abbrev start : Store
+  start = record { maps = λ i. cond (eqb i 0) (left .pix2tri) (right .pix2tri); depths = λ i. cond (eqb i 0) (left .pix2depth) (right .pix2depth) }
+
+  -- clear, draw, clear, draw, join
+  twoRuns : Spans left (pixelCount sc) → Spans right (pixelCount sc) → Case
+  unfolding after
+  twoRuns sl sr =
+      record {
+        mesh = record { tri2vtx = tri; sc = sc; accepted = accepted; keep = every; idle = λ i h t. absurd t; rs = rs; cut = cut };
+        start = start;
+        calls = clearOf sc rs 0 ∷ drawOf sc rs 0 0 ∷ clearOf sc rs 1 ∷ drawOf sc rs 1 1 ∷ joinOf sc rs 0 1 ∷ [];
+        plan =
+            record {
+              stands = now (now (now (now (now (λ i. nothing) 0 plan.blank) 0 (runs 0 1)) 1 plan.blank) 1 (runs 1 1)) 0 (runs 0 2);
+              keeps = clears 0 sl (plan.draws 0 0 (lit< tt) refl (clears 1 sr (plan.draws 1 1 (lit< tt) refl (joins 0 1 0 1 1 (λ e. omega arith) refl refl over))));
+              last = 0;
+              remaining = refl;
+            };
+      }
+
+  -- what the calls leave, for the runs' slices a and b, the second numbered from k
+  abbrev joinedRuns : List ℕ → List ℕ → ℕ → Outcome Layer
+  joinedRuns a b k =
+      joining (draws (clearing left (sc .width) (sc .height) .left) a (sc .vertices) (sc .width) (sc .height) (sc .matrix) 0 .left)
+      (draws (clearing right (sc .width) (sc .height) .left) b (sc .vertices) (sc .width) (sc .height) (sc .matrix) k .left) (sc .width) (sc .height)
+
+  module _ (few : count ≤ length tri / 3) (sl : Spans left (pixelCount sc)) (sr : Spans right (pixelCount sc)) where
+    same-layer : final (twoRuns sl sr) ≡ full (twoRuns sl sr .mesh)
+    unfolding twoRuns
+    same-layer =
+        let p = pictures (twoRuns sl sr) in
+        ap₂ layer (p .maps ∙ map-every (full (twoRuns sl sr .mesh) .pix2tri)) (p .depths)
+
+    planned : joinedRuns (flat (take count fs)) (flat (drop count fs)) (length (take count fs ++ [])) ≡ outcome 0 (final (twoRuns sl sr))
+    unfolding twoRuns after afterAll joined Accepted
+    planned = ap₂ outcome (pictures (twoRuns sl sr) .answered .1 .1 .1 .1 .0) refl
+
+    whole-list : outcome 0 (full (twoRuns sl sr .mesh)) ≡ draws (cleared (pixelCount sc)) tri (sc .vertices) (sc .width) (sc .height) (sc .matrix) 0
+    unfolding twoRuns draws
+    whole-list = ap₂ outcome (sym accepted) refl
+
+    count-is : length (take count fs ++ []) ≡ count
+    count-is = rw append-nil (taken count fs (omega (arith, length-flat fs, ap length threes)))
+
+    -- The joined layer is what drawing the whole list gives.
+    pub two-runs : joinedRuns (take (3 * count) tri) (drop (3 * count) tri) count ≡ draws (cleared (pixelCount sc)) tri (sc .vertices) (sc .width) (sc .height) (sc .matrix) 0
+    two-runs =
+        let a : take (3 * count) tri ≡ flat (take count fs) = ap (take (3 * count)) (sym threes) ∙ flat-take count fs in
+        let b : drop (3 * count) tri ≡ flat (drop count fs) = ap (drop (3 * count)) (sym threes) ∙ flat-drop count fs in
+        ap₂ (λ (x y : List ℕ). joinedRuns x y count) a b
+        ∙ ap (joinedRuns (flat (take count fs)) (flat (drop count fs))) (sym count-is)
+        ∙ planned
+        ∙ ap (outcome 0) same-layer
+        ∙ whole-list

@@ -1,0 +1,1 @@
+// Nothing here runs: the theorems are in specs/.
