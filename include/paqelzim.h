@@ -8,8 +8,8 @@
  * reaches that many of them, also where a call then refuses; of an empty slice it is not null all the same. Slices
  * that a call writes overlap no other of its slices.
  *
- * A call that can refuse answers a code: 0 where it is accepted, else the number of the first of its questions, in
- * rising order, that is answered no, and then nothing has been written. An accepted call writes the places that its
+ * A call that can refuse answers a code: 0 where it is accepted, else the number of the first of its questions, in the
+ * order of its comment, that is answered no, and then nothing has been written. An accepted call writes the places that its
  * comment names; every other place keeps its bits. Nothing is stored there, but by two calls whose comments say so, which
  * store what it held again. That a NaN keeps its payload is tested and not proved: to the proofs there is one NaN.
  *   1  are width and height from 1 to 4,096?

@@ -11,7 +11,7 @@
 //! - A matrix has sixteen numbers, column by column. In normal device coordinates x goes to the right, y up, and
 //!   the greater depth is in front.
 //!
-//! A call that can refuse asks its questions in rising number before it writes anything. The first that is answered
+//! A call that can refuse asks its questions in its page's order before it writes anything. The first that is answered
 //! no is the [`Refusal`], and then every slice is as it was. Each call's page names its questions and the places
 //! that an accepted call writes; every other place keeps its bits. Nothing is stored there, but by [`join`] and
 //! [`pix2tri_by_rasterization`], which store what it held again. That a NaN keeps its payload is tested and not proved:

@@ -1,7 +1,6 @@
 -- The loop over an axis's pairs, column by column: what holds before turn i.
 use Prim.Native.Nat.{ℕ, _+_, _-_, _*_, _<_, _≤_}
-use mathlib.Core.Path.{_≡_, refl, sym, _∙_, ap, ap₂}
-use mathlib.Core.Bool.{true}
+use mathlib.Core.Path.{_≡_, refl, _∙_, ap, ap₂}
 use mathlib.Core.List.{List, flatMap}
 use native.Mathlib.Nat.{mul-comm}
 use native.Mathlib.Omega.{arith}
@@ -10,25 +9,10 @@ use lib.ListN.{length}
 use Rattle.lists.specs.Lists.{span}
 use Rattle.meshes.specs.Sums.{Addition, summed}
 use Rattle.meshes.specs.Laws.{turns-none, turns-more, turns-ended}
-use Rattle.pixels.specs.Edge.{axis, Edge, edgeAt, edgeFrom, rows}
-use Rattle.pixels.specs.Laws.{Walked, walked-none, walked-more, Follows, walked-edge, in-row, in-column, number-below}
-use Rattle.edges.specs.Types.{Sight, answered}
-use Rattle.edges.specs.Calls.{allAnswered}
-use Rattle.edges.specs.Steps.{Within}
-use Rattle.lists.specs.Laws.Every.{in-span}
+use Rattle.pixels.specs.Edge.{axis, Edge, edgeAt, edgeFrom}
+use Rattle.pixels.specs.Laws.{Walked, walked-none, walked-more, Follows, walked-edge, in-row, in-column}
+use Rattle.pairs.specs.Steps.{Within}
 use Rattle.edge_bwd.specs.Additions.{edgeDown}
-
--- question 8 of an axis, at one of its pairs
-pub answered-at : (s : Sight) (h right down : ℕ) {x y : ℕ} → Within (s .width) h right down x y → allAnswered (axis right down) h s ≡ true
-    → answered s (edgeFrom (axis right down) x y) ≡ true
-unfolding allAnswered
-answered-at s h right down {x} {y} k e =
-    let c : x < s .width - right = omega (arith, k .column) in
-    let r : y < h - down = omega (arith, k .row) in
-    let l : y * (s .width - right) + x < (h - down) * (s .width - right) = omega (arith, number-below c r, mul-comm (h - down) (s .width - right)) in
-    let walk : Walked (s .width - right) (y * (s .width - right) + x) x y = record { number = refl; column = λ p. c } in
-    sym (ap (answered s) (walked-edge (axis right down) (s .width) h walk l))
-    ∙ in-span (λ i. answered s (edgeAt (axis right down) (s .width) i)) ((h - down) * (s .width - right)) e (y * (s .width - right) + x) l
 
 -- ---- a walk by columns is a walk by rows of the picture on its side
 

@@ -1,5 +1,6 @@
--- 01, "Edges": the backward pass of the edge gradient, over a view of the map.
-pub mod Shares
+-- 01, "Edges": the call `bwd`.
 pub mod Additions
 pub mod Calls
 pub mod Steps
+-- proved of the definitions above
+pub mod Laws

@@ -1,48 +1,76 @@
 // Edges: the public call `bwd`.
 
 ghost use mathlib.Core.Path.{_≡_};
-ghost use Rattle.questions.specs.Questions.{firstNo};
-ghost use Rattle.questions.specs.Laws.{Sized, Channels};
+ghost use mathlib.Core.Bool.{true};
+ghost use mathlib.Core.List.{_++_};
+ghost use Prim.Native.Nat.{_*_, _/_, _≤_};
+ghost use lib.ListN.{length};
+ghost use Rattle.questions.specs.Questions.{firstNo, outcome, mostCount, naming};
+ghost use Rattle.questions.specs.Laws.{Sized, Grouped};
 ghost use Rattle.meshes.specs.View.{viewOf};
-ghost use Rattle.edges.specs.Types.{sight};
-ghost use Rattle.edges.specs.Gradient.{signal};
+ghost use Rattle.meshes.specs.Sums.{summed};
 ghost use Rattle.meshes.specs.Sound.{SoundMap};
-ghost use Rattle.edge_bwd.specs.Calls.{exactBwd, ofPairs, bwdCode, outcome, edgeBwd};
+ghost use Rattle.pixels.specs.Edge.{axis};
+ghost use Rattle.pairs.specs.Pairs.{edgeView, allAnswered};
+ghost use Rattle.pairs.specs.Gradient.{pixelValues};
+ghost use Rattle.pairs.specs.Steps.{SoundValues};
+ghost use Rattle.edge_bwd.specs.Additions.{axisAdditions};
+ghost use Rattle.edge_bwd.specs.Calls.{ofPairs, bwdCode, edgeBwd};
 
-mod pairs;
-mod quick;
-mod shares;
-
-// Question 4.
-fn lengths_ok(
+// What an axis adds: column by column, from the top. `right` and `down` lead from a pair's first pixel to its second.
+fn scatter_axis(
+    sums: &mut [f32],
+    tri2vtx: &[u32],
     vtx2xyz: &[f32],
-    dldw_vtx2xyz: &[f32],
+    m: &[f32; 16],
     img_w: usize,
     img_h: usize,
     pix2tri: &[u32],
     num_vdim: usize,
     pix2val: &[f32],
     dldw_pix2val: &[f32],
-) -> bool
-    requires { ⌜ Sized 1 «img_w» «img_h» ⌝ }
-    requires { ⌜ Channels «num_vdim» ⌝ }
-    ensures { λ r. ⌜ r ≡ exactBwd «img_w» «img_h» (now («pix2tri» .entry)) (signal (now («pix2val» .entry)) (now («dldw_pix2val» .entry)) «num_vdim»)
-        (now («vtx2xyz» .entry)) (now («dldw_vtx2xyz» .entry)) ⌝ }
+    right: usize,
+    down: usize,
+)
+    requires { ⌜ SoundMap (now «tri2vtx») (now «vtx2xyz») (now «pix2tri») «img_w» «img_h» ⌝ }
+    requires { ⌜ SoundValues (pixelValues (now «pix2val») (now «dldw_pix2val») «num_vdim») («img_w» * «img_h») ⌝ }
+    requires { ⌜ length (now sums) ≡ length (now «vtx2xyz») ⌝ }
+    requires { ⌜ (right ≤ 1) × (down ≤ 1) ⌝ }
+    requires { ⌜ allAnswered (axis right down) «img_h» (edgeView (viewOf (now «tri2vtx») (now «pix2tri»)) (now m) (now «vtx2xyz») «img_w») ≡ true ⌝ }
+    ensures { λ r. ⌜ now (sums .exit) ≡ summed (now (sums .entry)) (axisAdditions (axis right down) «img_h»
+        (edgeView (viewOf (now («tri2vtx» .entry)) (now («pix2tri» .entry))) (now (m .entry)) (now («vtx2xyz» .entry)) «img_w»)
+        (pixelValues (now («pix2val» .entry)) (now («dldw_pix2val» .entry)) «num_vdim»)) ⌝ }
 {
-    let n = img_w * img_h;
-    if pix2tri.len() != n {
-        return false;
+    let rows = img_h - down;
+    let n = rows * (img_w - right);
+    let mut x = 0;
+    let mut y = 0;
+    let mut i = 0;
+    while i < n {
+        shares::scatter_pair(
+            sums,
+            tri2vtx,
+            vtx2xyz,
+            m,
+            img_w,
+            img_h,
+            pix2tri,
+            num_vdim,
+            pix2val,
+            dldw_pix2val,
+            x,
+            y,
+            right,
+            down,
+        );
+        let next = pixels::next(y, x, rows);
+        x = next.y;
+        y = next.x;
+        i += 1;
     }
-    if pix2val.len() != n * num_vdim {
-        return false;
-    }
-    if dldw_pix2val.len() != n * num_vdim {
-        return false;
-    }
-    dldw_vtx2xyz.len() == vtx2xyz.len()
 }
 
-// Question 8 of both axes, and 9 after it.
+// Questions 8 and 9. Mostly both are answered by one pass over the pixels; else pair by pair.
 fn pairs_code(
     tri2vtx: &[u32],
     vtx2xyz: &[f32],
@@ -53,24 +81,41 @@ fn pairs_code(
 ) -> u32
     requires { ⌜ SoundMap (now «tri2vtx») (now «vtx2xyz») (now «pix2tri») «img_w» «img_h» ⌝ }
     ensures { λ r. ⌜ r ≡ firstNo (ofPairs «img_h»
-        (sight (viewOf (now («tri2vtx» .entry)) (now («pix2tri» .entry))) (now (m .entry)) (now («vtx2xyz» .entry)) «img_w»)) ⌝ }
+        (edgeView (viewOf (now («tri2vtx» .entry)) (now («pix2tri» .entry))) (now (m .entry)) (now («vtx2xyz» .entry)) «img_w»)) ⌝ }
 {
-    if quick::settled(tri2vtx, vtx2xyz, m, img_w, img_h, pix2tri) {
+    if pixel_unwraps::quickly_answered(tri2vtx, vtx2xyz, m, img_w, img_h, pix2tri) {
         return 0;
     }
-    if !edges::pairs::all_answered(tri2vtx, vtx2xyz, m, img_w, img_h, pix2tri, 0, 1) {
+    if !pairs::both_answered(tri2vtx, vtx2xyz, m, img_w, img_h, pix2tri) {
         return 8;
     }
-    if !edges::pairs::all_answered(tri2vtx, vtx2xyz, m, img_w, img_h, pix2tri, 1, 0) {
-        return 8;
-    }
-    if !pairs::all_ok(tri2vtx, vtx2xyz, m, img_w, img_h, pix2tri, 0, 1) {
-        return 9;
-    }
-    if !pairs::all_ok(tri2vtx, vtx2xyz, m, img_w, img_h, pix2tri, 1, 0) {
+    if !unwraps::both_ok(tri2vtx, vtx2xyz, m, img_w, img_h, pix2tri) {
         return 9;
     }
     0
+}
+
+// Questions 6 to 9.
+fn closing_code(
+    tri2vtx: &[u32],
+    vtx2xyz: &[f32],
+    m: &[f32; 16],
+    img_w: usize,
+    img_h: usize,
+    pix2tri: &[u32],
+) -> u32
+    requires { ⌜ Sized 1 «img_w» «img_h» ⌝ }
+    requires { ⌜ Grouped 3 mostCount (length (now «tri2vtx»)) ⌝ }
+    requires { ⌜ Grouped 3 mostCount (length (now «vtx2xyz»)) ⌝ }
+    requires { ⌜ length (now «pix2tri») ≡ «img_w» * «img_h» ⌝ }
+    ensures { λ r. ⌜ r ≡ firstNo (naming (length (now («vtx2xyz» .entry)) / 3) (now («tri2vtx» .entry)) (now («pix2tri» .entry))
+        ++ ofPairs «img_h» (edgeView (viewOf (now («tri2vtx» .entry)) (now («pix2tri» .entry))) (now (m .entry)) (now («vtx2xyz» .entry)) «img_w»)) ⌝ }
+{
+    let code = questions::naming_code(vtx2xyz.len() / 3, tri2vtx, pix2tri);
+    if code != 0 {
+        return code;
+    }
+    pairs_code(tri2vtx, vtx2xyz, m, img_w, img_h, pix2tri)
 }
 
 // Questions 1 to 9.
@@ -87,40 +132,20 @@ fn bwd_code(
     dldw_pix2val: &[f32],
 ) -> u32
     ensures { λ r. ⌜ r ≡ bwdCode (now («tri2vtx» .entry)) (now («pix2tri» .entry)) «img_h»
-        (sight (viewOf (now («tri2vtx» .entry)) (now («pix2tri» .entry))) (now («transform_world2pix» .entry)) (now («vtx2xyz» .entry)) «img_w»)
-        (signal (now («pix2val» .entry)) (now («dldw_pix2val» .entry)) «num_vdim») (now («dldw_vtx2xyz» .entry)) ⌝ }
+        (edgeView (viewOf (now («tri2vtx» .entry)) (now («pix2tri» .entry))) (now («transform_world2pix» .entry)) (now («vtx2xyz» .entry)) «img_w»)
+        (pixelValues (now («pix2val» .entry)) (now («dldw_pix2val» .entry)) «num_vdim») (now («dldw_vtx2xyz» .entry)) ⌝ }
 {
-    if !questions::sizes_ok(1, img_w, img_h) {
-        return 1;
+    let code = questions::opening_code(img_w, img_h, num_vdim, tri2vtx.len(), vtx2xyz.len());
+    if code != 0 {
+        return code;
     }
-    if !questions::channels_ok(num_vdim) {
-        return 2;
-    }
-    if !questions::groups_ok(3, tri2vtx.len()) {
-        return 3;
-    }
-    if !questions::groups_ok(3, vtx2xyz.len()) {
-        return 3;
-    }
-    if !lengths_ok(
-        vtx2xyz,
-        dldw_vtx2xyz,
-        img_w,
-        img_h,
-        pix2tri,
-        num_vdim,
-        pix2val,
-        dldw_pix2val,
-    ) {
+    if !pairs::pixels_ok(img_w, img_h, pix2tri, num_vdim, pix2val, dldw_pix2val) {
         return 4;
     }
-    if !questions::all_below(vtx2xyz.len() / 3, tri2vtx) {
-        return 6;
+    if dldw_vtx2xyz.len() != vtx2xyz.len() {
+        return 4;
     }
-    if !questions::names_faces(tri2vtx.len() / 3, pix2tri) {
-        return 7;
-    }
-    pairs_code(tri2vtx, vtx2xyz, transform_world2pix, img_w, img_h, pix2tri)
+    closing_code(tri2vtx, vtx2xyz, transform_world2pix, img_w, img_h, pix2tri)
 }
 
 // Adds the gradient of every edge to the vertices of the faces that receive it.
@@ -138,8 +163,8 @@ pub fn bwd(
 ) -> u32
     ensures { λ r. ⌜ outcome r (now («dldw_vtx2xyz» .exit))
         ≡ edgeBwd (now («tri2vtx» .entry)) (now («pix2tri» .entry)) «img_h»
-        (sight (viewOf (now («tri2vtx» .entry)) (now («pix2tri» .entry))) (now («transform_world2pix» .entry)) (now («vtx2xyz» .entry)) «img_w»)
-        (signal (now («pix2val» .entry)) (now («dldw_pix2val» .entry)) «num_vdim») (now («dldw_vtx2xyz» .entry)) ⌝ }
+        (edgeView (viewOf (now («tri2vtx» .entry)) (now («pix2tri» .entry))) (now («transform_world2pix» .entry)) (now («vtx2xyz» .entry)) «img_w»)
+        (pixelValues (now («pix2val» .entry)) (now («dldw_pix2val» .entry)) «num_vdim») (now («dldw_vtx2xyz» .entry)) ⌝ }
 {
     let code = bwd_code(
         tri2vtx,
@@ -156,7 +181,7 @@ pub fn bwd(
     if code != 0 {
         return code;
     }
-    pairs::scatter_axis(
+    scatter_axis(
         dldw_vtx2xyz,
         tri2vtx,
         vtx2xyz,
@@ -170,7 +195,7 @@ pub fn bwd(
         0,
         1,
     );
-    pairs::scatter_axis(
+    scatter_axis(
         dldw_vtx2xyz,
         tri2vtx,
         vtx2xyz,

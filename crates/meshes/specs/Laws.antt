@@ -43,6 +43,9 @@ unfolding summed
 summed-append s [] ys = refl
 summed-append s (x ∷ xs) ys = summed-append (added s x) xs ys
 
+pub summed-then : (s : List Float) {s1 s2 : List Float} (x y : List Addition) → s1 ≡ summed s x → s2 ≡ summed s1 y → s2 ≡ summed s (x ++ y)
+summed-then s {s1} {s2} x y p q = q ∙ ap (λ (t : List Float). summed t y) p ∙ sym (summed-append s x y)
+
 pub length-summed : (s : List Float) (xs : List Addition) → length (summed s xs) ≡ length s
 unfolding summed added
 length-summed s [] = refl

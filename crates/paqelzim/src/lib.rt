@@ -9,15 +9,18 @@ ghost use Rattle.questions.specs.Questions.{outcome};
 ghost use Rattle.layers.specs.Layer.{layer};
 ghost use Rattle.layers.specs.Calls.{clearing, joining};
 ghost use Rattle.meshes.specs.View.{viewOf};
-ghost use Rattle.values.specs.Pass.{image, vertices};
-ghost use Rattle.values.specs.Interpolate as forward;
-ghost use Rattle.values_bwd.specs.Bwd as backward;
-ghost use Rattle.edges.specs.Types.{sight};
-ghost use Rattle.edges.specs.Gradient.{signal};
-ghost use Rattle.edges.specs.Calls as edge;
-ghost use Rattle.edge_bwd.specs.Calls as scatter;
-ghost use Rattle.velocity.specs.Calls as velocity;
 ghost use Rattle.rules.specs.Calls.{draws};
+ghost use Rattle.pixel_rays.specs.Rays.{image};
+ghost use Rattle.vertex_values.specs.Pass.{vertices};
+ghost use Rattle.values.specs.Interpolate.{interpolating};
+ghost use Rattle.pixel_bwd.specs.Additions.{sums};
+ghost use Rattle.values_bwd.specs.Bwd.{interpolatingBwd};
+ghost use Rattle.pairs.specs.Pairs.{edgeView};
+ghost use Rattle.pairs.specs.Gradient.{pixelValues};
+ghost use Rattle.edge_types.specs.Axis.{axisBuffers};
+ghost use Rattle.edges.specs.Calls.{edgeBuffers, edgeTyping};
+ghost use Rattle.edge_bwd.specs.Calls.{edgeBwd};
+ghost use Rattle.velocity.specs.Calls.{velocities};
 
 #[no_mangle]
 pub extern "C" fn paqelzim_clear(
@@ -92,8 +95,8 @@ pub extern "C" fn paqelzim_interpolate(
     transform_ndc2world: &[f32; 16],
     pix2val: &mut [f32],
 ) -> u32
-    ensures { λ r. ⌜ forward.outcome r (now (pix2val .exit))
-        ≡ forward.interpolating (image «img_w» «img_h» (now («transform_ndc2world» .entry))) (vertices (now (vtx2xyz .entry)) «num_vdim» (now (vtx2val .entry)))
+    ensures { λ r. ⌜ outcome r (now (pix2val .exit))
+        ≡ interpolating (image «img_w» «img_h» (now («transform_ndc2world» .entry))) (vertices (now (vtx2xyz .entry)) «num_vdim» (now (vtx2val .entry)))
         (now (tri2vtx .entry)) (now (pix2tri .entry)) (now (pix2val .entry)) ⌝ }
 {
     values::interpolate(
@@ -123,9 +126,9 @@ pub extern "C" fn paqelzim_interpolate_bwd(
     dldw_vtx2xyz: &mut [f32],
     dldw_vtx2val: &mut [f32],
 ) -> u32
-    ensures { λ r. ⌜ backward.outcome r (now («dldw_vtx2xyz» .exit)) (now («dldw_vtx2val» .exit))
-        ≡ backward.interpolatingBwd (image «img_w» «img_h» (now («transform_ndc2world» .entry))) (vertices (now (vtx2xyz .entry)) «num_vdim» (now (vtx2val .entry)))
-        (now (tri2vtx .entry)) (now (pix2tri .entry)) (now («dldw_pix2val» .entry)) (backward.sums (now («dldw_vtx2xyz» .entry)) (now («dldw_vtx2val» .entry))) ⌝ }
+    ensures { λ r. ⌜ outcome r (sums (now («dldw_vtx2xyz» .exit)) (now («dldw_vtx2val» .exit)))
+        ≡ interpolatingBwd (image «img_w» «img_h» (now («transform_ndc2world» .entry))) (vertices (now (vtx2xyz .entry)) «num_vdim» (now (vtx2val .entry)))
+        (now (tri2vtx .entry)) (now (pix2tri .entry)) (now («dldw_pix2val» .entry)) (sums (now («dldw_vtx2xyz» .entry)) (now («dldw_vtx2val» .entry))) ⌝ }
 {
     values_bwd::interpolate_bwd(
         img_w,
@@ -158,11 +161,11 @@ pub extern "C" fn paqelzim_edge_gradient_and_type(
     vedge2type: &mut [u8],
     vedge2dldr: &mut [f32],
 ) -> u32
-    ensures { λ r. ⌜ edge.outcome r (edge.sheet (now («hedge2type» .exit)) (now («hedge2dldr» .exit))) (edge.sheet (now («vedge2type» .exit)) (now («vedge2dldr» .exit)))
-        ≡ edge.edgeTyping (now («tri2vtx» .entry)) (now («pix2tri» .entry)) «img_h»
-        (sight (viewOf (now («tri2vtx» .entry)) (now («pix2tri» .entry))) (now («transform_world2pix» .entry)) (now («vtx2xyz» .entry)) «img_w»)
-        (signal (now («pix2val» .entry)) (now («dldw_pix2val» .entry)) «num_vdim»)
-        (edge.sheet (now («hedge2type» .entry)) (now («hedge2dldr» .entry))) (edge.sheet (now («vedge2type» .entry)) (now («vedge2dldr» .entry))) ⌝ }
+    ensures { λ r. ⌜ outcome r (edgeBuffers (axisBuffers (now («hedge2type» .exit)) (now («hedge2dldr» .exit))) (axisBuffers (now («vedge2type» .exit)) (now («vedge2dldr» .exit))))
+        ≡ edgeTyping (now («tri2vtx» .entry)) (now («pix2tri» .entry)) «img_h»
+        (edgeView (viewOf (now («tri2vtx» .entry)) (now («pix2tri» .entry))) (now («transform_world2pix» .entry)) (now («vtx2xyz» .entry)) «img_w»)
+        (pixelValues (now («pix2val» .entry)) (now («dldw_pix2val» .entry)) «num_vdim»)
+        (edgeBuffers (axisBuffers (now («hedge2type» .entry)) (now («hedge2dldr» .entry))) (axisBuffers (now («vedge2type» .entry)) (now («vedge2dldr» .entry)))) ⌝ }
 {
     edges::edge_gradient_and_type(
         tri2vtx,
@@ -194,10 +197,10 @@ pub extern "C" fn paqelzim_bwd(
     pix2val: &[f32],
     dldw_pix2val: &[f32],
 ) -> u32
-    ensures { λ r. ⌜ scatter.outcome r (now («dldw_vtx2xyz» .exit))
-        ≡ scatter.edgeBwd (now («tri2vtx» .entry)) (now («pix2tri» .entry)) «img_h»
-        (sight (viewOf (now («tri2vtx» .entry)) (now («pix2tri» .entry))) (now («transform_world2pix» .entry)) (now («vtx2xyz» .entry)) «img_w»)
-        (signal (now («pix2val» .entry)) (now («dldw_pix2val» .entry)) «num_vdim») (now («dldw_vtx2xyz» .entry)) ⌝ }
+    ensures { λ r. ⌜ outcome r (now («dldw_vtx2xyz» .exit))
+        ≡ edgeBwd (now («tri2vtx» .entry)) (now («pix2tri» .entry)) «img_h»
+        (edgeView (viewOf (now («tri2vtx» .entry)) (now («pix2tri» .entry))) (now («transform_world2pix» .entry)) (now («vtx2xyz» .entry)) «img_w»)
+        (pixelValues (now («pix2val» .entry)) (now («dldw_pix2val» .entry)) «num_vdim») (now («dldw_vtx2xyz» .entry)) ⌝ }
 {
     edge_bwd::bwd(
         tri2vtx,
@@ -222,8 +225,8 @@ pub extern "C" fn paqelzim_interpolate_from_edges(
     vtx2xy: &[f32],
     vtx2velo: &mut [f32],
 ) -> u32
-    ensures { λ r. ⌜ velocity.outcome r (now («vtx2velo» .exit))
-        ≡ velocity.velocities «img_w» «img_h» (now («hedge2vy» .entry)) (now («vedge2vx» .entry)) (now («vtx2xy» .entry)) (now («vtx2velo» .entry)) ⌝ }
+    ensures { λ r. ⌜ outcome r (now («vtx2velo» .exit))
+        ≡ velocities «img_w» «img_h» (now («hedge2vy» .entry)) (now («vedge2vx» .entry)) (now («vtx2xy» .entry)) (now («vtx2velo» .entry)) ⌝ }
 {
     velocity::interpolate_from_edges(img_w, img_h, hedge2vy, vedge2vx, vtx2xy, vtx2velo)
 }

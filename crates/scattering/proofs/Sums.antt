@@ -6,7 +6,7 @@ use lib.Ieee.{Float}
 use Rattle.geometry.specs.Arith.{floats}
 use Rattle.geometry.specs.Vector.{Vec3, Weights, Triangle}
 use Rattle.geometry.specs.Leaf.{entries}
-use Rattle.slopes.specs.Formula.{Mat3, jacobian, multMat3}
+use Rattle.jacobians.specs.Formula.{Mat3, jacobian, multMat3}
 use Rattle.meshes.specs.Mesh.{Face}
 use Rattle.meshes.specs.Sums.{Addition, added, summed}
 use Rattle.tris.specs.Tri.{pointOn}

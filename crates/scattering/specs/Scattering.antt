@@ -6,7 +6,7 @@ use lib.Ieee.{Float}
 use Rattle.geometry.specs.Arith.{floats}
 use Rattle.geometry.specs.Vector.{Vec2, Vec3, Weights, Projected, Triangle}
 use Rattle.geometry.specs.Leaf.{entries}
-use Rattle.slopes.specs.Formula.{jacobian, multMat3}
+use Rattle.jacobians.specs.Formula.{jacobian, multMat3}
 use Rattle.meshes.specs.Mesh.{Face}
 use Rattle.meshes.specs.Sums.{Addition, addition}
 use Rattle.tris.specs.Weights.{worldIn}

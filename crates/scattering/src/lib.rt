@@ -49,7 +49,7 @@ pub fn scatter(sums: &mut [f32], tri2vtx: &[u32], m: &[f32; 16], i: usize, t: Tr
         return;
     };
     let x = tris::world_pos(t, b0, b1, b2);
-    let j = slopes::jacobian_transform(m, x);
+    let j = jacobians::jacobian_transform(m, x);
     add_face(
         sums,
         tri2vtx,
@@ -57,6 +57,6 @@ pub fn scatter(sums: &mut [f32], tri2vtx: &[u32], m: &[f32; 16], i: usize, t: Tr
         b0,
         b1,
         b2,
-        slopes::mult_mat3_col_major(g, j),
+        jacobians::mult_mat3_col_major(g, j),
     );
 }

@@ -1,169 +1,111 @@
--- 01, "Demand 3's words", as one statement: `demand3`, at the end. It leans on these definitions, and on no other:
---   clearing, draws, joining, drawCode      what the contracts of the three calls cite (layers Calls, rules Calls)
---   interpolating, interpolatingBwd, edgeTyping, edgeBwd      what the contracts of the four passes cite
---   offers, Holds, Shows                    the offers at a pixel and what it shows, defined without drawing (rules Offers, layers Offers)
---   Idle, keptFrom, renumber, flat, joined  faces that hold no pixel, those kept, their new numbers, slices and runs (Thinned, Faces, Plan)
---   Store, Call, outcomeOf, after, cleared  a sequence of calls on layers that share no memory (Calls, Whole)
---   Keeps, Accepted                         the plan, and that its own calls are accepted (Plan)
+-- Demand 3 as one statement: `demand3`, at the end. This is all that it leans on, beside numbers, lists and IEEE floats:
+--   Cut, Planned, Case          an accepted mesh, thinned and cut into runs, and a sequence of calls that keeps to the plan (sequences Case)
+--   Store, Call, afterAll       layers that share no memory, calls on them, and what is left in the end (sequences Calls)
+--   Keeps, Accepted             the plan, and that its own calls are accepted (sequences Plan)
+--   Idle                        the faces taken out hold no pixel (sequences Thinned)
+--   full, final, Pictures       the whole drawing, the layer that remains, and what is said of the two (sequences Case)
+--   flat, joined, cleared       a list of faces as a slice, runs one after the other, a cleared layer (sequences Plan, Whole)
+--   keptFrom, renumber          the faces kept, and their new numbers (offers Thinning)
+--   offers, Holds, Shows        the offers at a pixel and what it shows, defined without drawing (rules Offers, offers Offers)
+--   clearing, joining, draws, drawCode                         the outcomes of the three calls, cited by their contracts (layers Calls, rules Calls)
+--   interpolating, interpolatingBwd, edgeTyping, edgeBwd       those of the four passes (values Interpolate, values_bwd Bwd, edges Calls, edge_bwd Calls)
+--   Free, Unnamed               a vertex that is a corner of no face that an entry names (Gradients)
 use Prim.Native.Nat.{ℕ, _+_, _*_, _/_, _<_}
-use mathlib.Core.Path.{_≡_, refl, ap, sym, _∙_, subst}
-use mathlib.Core.Bool.{Bool, true}
+use mathlib.Core.Path.{_≡_, ap, sym, subst}
+use mathlib.Core.Bool.{true}
 use mathlib.Core.List.{List, map}
 use lib.Ieee.{Float, nan}
 use lib.ListN.{length, getD}
-use Rattle.questions.specs.Questions.{allBelow}
-use Rattle.layers.specs.Layer.{Layer, at}
-use Rattle.offers.specs.Offers.{Shows}
-use Rattle.offers.specs.Laws.Greatest.{first-of-greatest}
-use Rattle.meshes.specs.Mesh.{Face, facesOf}
+use Rattle.questions.specs.Questions.{allBelow, empty}
+use Rattle.offers.specs.Thinning.{renumber}
+use Rattle.layers.specs.Layer.{Layer}
 use Rattle.meshes.specs.View.{viewOf}
-use Rattle.rules.specs.Offers.{Scene, brought, offers}
-use Rattle.rules.specs.Calls.{drawCode, draws}
-use Rattle.values.specs.Pass.{Image, Vertices, vertices}
+use Rattle.views.specs.Alike.{Alike}
+use Rattle.sequences.specs.Plan.{flat}
+use Rattle.sequences.specs.Whole.{fresh}
+use Rattle.sequences.specs.Mesh.{threes-of, few-of}
+use Rattle.sequences.specs.Thinned.{alike}
+use Rattle.sequences.specs.Case.{Case, faces, keptFaces, full, final, Pictures, pictures, mesh-answered, full-is, final-renumbered}
+use Rattle.pixel_rays.specs.Rays.{Image}
+use Rattle.vertex_values.specs.Pass.{Vertices, vertices}
 use Rattle.values.specs.Interpolate.{interpolating}
-use Rattle.values_bwd.specs.Bwd.{Sums, interpolatingBwd}
-use Rattle.edges.specs.Types.{sight}
-use Rattle.edges.specs.Gradient.{Signal}
-use Rattle.edges.specs.Calls.{Sheet, edgeTyping}
+use Rattle.pixel_bwd.specs.Additions.{Sums}
+use Rattle.values_bwd.specs.Bwd.{interpolatingBwd}
+use Rattle.pairs.specs.Pairs.{edgeView}
+use Rattle.pairs.specs.Gradient.{PixelValues}
+use Rattle.edges.specs.Calls.{EdgeBuffers, edgeTyping}
 use Rattle.edge_bwd.specs.Calls.{edgeBwd}
-use Rattle.theorems.specs.Faces.{keptFrom, renumber}
-use Rattle.theorems.specs.Calls.{Store, layerOf, Call, afterAll}
-use Rattle.theorems.specs.Plan.{flat, joined, Stands, nothing, runs, Keeps, Accepted}
-use Rattle.theorems.specs.Whole.{pixelCount, cleared, fresh, fresh-at, remains}
-use Rattle.theorems.specs.Thinned.{Idle, renumbered, Mesh, accepted-mesh, fit, thinned}
-use Rattle.theorems.specs.Alike.{Alike, alike}
-use Rattle.theorems.specs.Gradients.{Unnamed, values-bwd-keeps-xyz, edge-bwd-keeps}
 use Rattle.theorems.specs.Passes.{values-same, values-bwd-same, edge-types-same, edge-bwd-same}
+use Rattle.theorems.specs.Gradients.{Unnamed, values-bwd-keeps-xyz, values-bwd-keeps-val, edge-bwd-keeps}
 
-pub record Case : Type 0 where
-  -- a mesh that the draw call accepts from number 0
-  pub tri2vtx : List ℕ
-  pub sc : Scene
-  pub accepted : drawCode (cleared (pixelCount sc)) tri2vtx (sc .vertices) (sc .width) (sc .height) 0 ≡ 0
-  -- "of the faces that hold no pixel, none, some or all are taken out"
-  pub keep : ℕ → Bool
-  pub idle : Idle sc (facesOf tri2vtx) keep
-  -- the rest, cut into runs; "A run may be empty"
-  pub rs : List (List Face)
-  pub cut : joined rs ≡ keptFrom keep 0 (facesOf tri2vtx)
-  -- layers that hold anything at first, and calls that keep to the plan until one layer remains
-  pub start : Store
-  pub calls : List Call
-  pub stands : ℕ → Stands
-  pub keeps : Keeps sc rs (λ i. nothing) start calls stands
-  pub last : ℕ
-  pub remaining : stands last ≡ runs 0 (length rs)
+-- the face slice and the map of the whole mesh, and of what is kept of it
+abbrev pub wholeSlice : Case → List ℕ
+wholeSlice c = c .mesh .tri2vtx
 
--- the full drawing
-abbrev pub full : Case → Layer
-full c = draws (cleared (pixelCount (c .sc))) (c .tri2vtx) (c .sc .vertices) (c .sc .width) (c .sc .height) (c .sc .matrix) 0 .left
+abbrev pub wholeMap : Case → List ℕ
+wholeMap c = full (c .mesh) .pix2tri
 
--- the layer that remains
-abbrev pub final : Case → Layer
-final c = layerOf (afterAll (c .start) (c .calls)) (c .last)
+abbrev pub keptSlice : Case → List ℕ
+keptSlice c = flat (keptFaces (c .mesh))
 
-abbrev pub faces : Case → List Face
-faces c = facesOf (c .tri2vtx)
-
-abbrev pub keptFaces : Case → List Face
-keptFaces c = keptFrom (c .keep) 0 (faces c)
-
-pub record Pictures (c : Case) : Type 0 where
-  -- every call of the plan is accepted
-  pub answered : Accepted (c .sc) (c .rs) (c .keeps)
-  -- "the last layer has the full drawing's depth bits and, renumbered, its map"
-  pub depths : final c .pix2depth ≡ full c .pix2depth
-  pub maps : final c .pix2tri ≡ map (renumber (c .keep)) (full c .pix2tri)
-  -- each covered pixel names the first face of greatest depth and has that depth; every other pixel is clear
-  pub full-shows : (p : ℕ) → p < pixelCount (c .sc) → Shows (offers (c .sc) (faces c) 0 p) (at (full c) p)
-  pub final-shows : (p : ℕ) → p < pixelCount (c .sc) → Shows (offers (c .sc) (keptFaces c) 0 p) (at (final c) p)
-
-module _ (c : Case) where
-  mesh : Mesh (c .sc) (c .tri2vtx)
-  mesh = accepted-mesh (cleared (pixelCount (c .sc))) (c .sc) (c .tri2vtx) (c .accepted)
-
-  full-is : full c ≡ fresh (c .sc) (faces c) 0
-  unfolding draws fresh
-  full-is = rw (c .accepted)
-
-  final-is : Accepted (c .sc) (c .rs) (c .keeps) × (final c ≡ fresh (c .sc) (keptFaces c) 0)
-  final-is =
-      let done = remains (c .sc) (c .rs) (fit (c .keep) (c .rs) mesh (c .cut)) (c .keeps) (c .last) (λ j. refl) (c .remaining) in
-      (done .0, done .1 ∙ ap (λ (fs : List Face). fresh (c .sc) fs 0) (c .cut))
-
-  final-renumbered : final c ≡ renumbered (c .keep) (full c)
-  final-renumbered = final-is .1 ∙ thinned (c .sc) (faces c) (c .keep) (mesh .few) (c .idle) ∙ ap (renumbered (c .keep)) (sym full-is)
-
-  shows-of : (fs : List Face) (l : Layer) → l ≡ fresh (c .sc) fs 0 → (p : ℕ) → p < pixelCount (c .sc) → Shows (offers (c .sc) fs 0 p) (at l p)
-  unfolding offers
-  shows-of fs l e p h = rw (e, fresh-at (c .sc) fs 0 p h) (first-of-greatest (brought (c .sc) fs 0 p))
-
-  pub pictures : Pictures c
-  pictures =
-      record {
-        answered = final-is .0;
-        depths = ap (λ (l : Layer). l .pix2depth) final-renumbered;
-        maps = ap (λ (l : Layer). l .pix2tri) final-renumbered;
-        full-shows = shows-of (faces c) (full c) full-is;
-        final-shows = shows-of (keptFaces c) (final c) (final-is .1);
-      }
+abbrev pub keptMap : Case → List ℕ
+keptMap c = final c .pix2tri
 
 -- "All else alike: beside faces and map, a pass gets the same arguments on both sides, with the mesh's vertices or as many others, and the buffers it writes start alike.
 -- Compared are its code and every number in those buffers afterwards."
-pub record Passes (c : Case) : Type 0 where
-  pub values : (xyz : List Float) → length xyz ≡ length (c .sc .vertices) → (g : Image) (channels : ℕ) (val pix2val : List Float)
-      → interpolating g (vertices xyz channels val) (c .tri2vtx) (full c .pix2tri) pix2val
-      ≡ interpolating g (vertices xyz channels val) (flat (keptFaces c)) (final c .pix2tri) pix2val
-  pub values-bwd : (xyz : List Float) → length xyz ≡ length (c .sc .vertices) → (g : Image) (channels : ℕ) (val dldw : List Float) (old : Sums)
-      → interpolatingBwd g (vertices xyz channels val) (c .tri2vtx) (full c .pix2tri) dldw old
-      ≡ interpolatingBwd g (vertices xyz channels val) (flat (keptFaces c)) (final c .pix2tri) dldw old
-  pub edge-types : (xyz : List Float) → length xyz ≡ length (c .sc .vertices) → (m : List Float) (w h : ℕ) (v : Signal) (hs vs : Sheet)
-      → edgeTyping (c .tri2vtx) (full c .pix2tri) h (sight (viewOf (c .tri2vtx) (full c .pix2tri)) m xyz w) v hs vs
-      ≡ edgeTyping (flat (keptFaces c)) (final c .pix2tri) h (sight (viewOf (flat (keptFaces c)) (final c .pix2tri)) m xyz w) v hs vs
-  pub edge-bwd : (xyz : List Float) → length xyz ≡ length (c .sc .vertices) → (m : List Float) (w h : ℕ) (v : Signal) (dxyz : List Float)
-      → edgeBwd (c .tri2vtx) (full c .pix2tri) h (sight (viewOf (c .tri2vtx) (full c .pix2tri)) m xyz w) v dxyz
-      ≡ edgeBwd (flat (keptFaces c)) (final c .pix2tri) h (sight (viewOf (flat (keptFaces c)) (final c .pix2tri)) m xyz w) v dxyz
+pub record Passes (c : Case) (xyz : List Float) : Type 0 where
+  pub values : (g : Image) (channels : ℕ) (val pix2val : List Float)
+      → interpolating g (vertices xyz channels val) (wholeSlice c) (wholeMap c) pix2val ≡ interpolating g (vertices xyz channels val) (keptSlice c) (keptMap c) pix2val
+  pub values-bwd : (g : Image) (channels : ℕ) (val dldw : List Float) (old : Sums)
+      → interpolatingBwd g (vertices xyz channels val) (wholeSlice c) (wholeMap c) dldw old ≡ interpolatingBwd g (vertices xyz channels val) (keptSlice c) (keptMap c) dldw old
+  pub edge-types : (m : List Float) (w h : ℕ) (v : PixelValues) (b : EdgeBuffers)
+      → edgeTyping (wholeSlice c) (wholeMap c) h (edgeView (viewOf (wholeSlice c) (wholeMap c)) m xyz w) v b
+      ≡ edgeTyping (keptSlice c) (keptMap c) h (edgeView (viewOf (keptSlice c) (keptMap c)) m xyz w) v b
+  pub edge-bwd : (m : List Float) (w h : ℕ) (v : PixelValues) (dxyz : List Float)
+      → edgeBwd (wholeSlice c) (wholeMap c) h (edgeView (viewOf (wholeSlice c) (wholeMap c)) m xyz w) v dxyz
+      ≡ edgeBwd (keptSlice c) (keptMap c) h (edgeView (viewOf (keptSlice c) (keptMap c)) m xyz w) v dxyz
 
-module _ (c : Case) where
-  alike-lists : (xyz : List Float) → length xyz ≡ length (c .sc .vertices) → Alike (length xyz / 3) (c .tri2vtx) (full c .pix2tri) (flat (keptFaces c)) (final c .pix2tri)
-  alike-lists xyz e =
-      let n = length xyz / 3 in
-      let below : allBelow n (flat (faces c)) ≡ true = rw (mesh c .threes, e) (mesh c .corners) in
-      let a = alike (c .sc) (faces c) (c .keep) (mesh c .few) (c .idle) n below in
-      let b = subst (λ (t : List ℕ). Alike n t (fresh (c .sc) (faces c) 0 .pix2tri) (flat (keptFaces c)) (map (renumber (c .keep)) (fresh (c .sc) (faces c) 0 .pix2tri))) (mesh c .threes) a in
-      let d = subst (λ (l : Layer). Alike n (c .tri2vtx) (l .pix2tri) (flat (keptFaces c)) (map (renumber (c .keep)) (l .pix2tri))) (sym (full-is c)) b in
-      subst (λ (ns : List ℕ). Alike n (c .tri2vtx) (full c .pix2tri) (flat (keptFaces c)) ns) (sym (ap (λ (l : Layer). l .pix2tri) (final-renumbered c))) d
+-- no pass over as many vertices can tell the two apart
+alike-lists : (c : Case) (xyz : List Float) → length xyz ≡ length (c .mesh .sc .vertices) → Alike (length xyz / 3) (wholeSlice c) (wholeMap c) (keptSlice c) (keptMap c)
+alike-lists c xyz e =
+    let m = c .mesh in
+    let n = length xyz / 3 in
+    let ok = mesh-answered m in
+    let threes = threes-of (m .tri2vtx) (ok .faces) in
+    let below : allBelow n (flat (faces m)) ≡ true = rw (threes, e) (ok .corners) in
+    let r = renumber empty (m .keep) in
+    let drawn = alike (m .sc) (faces m) (m .keep) (few-of (m .tri2vtx) (ok .faces)) (m .idle) n below in
+    let sliced = subst (λ (t : List ℕ). Alike n t (fresh (m .sc) (faces m) 0 .pix2tri) (keptSlice c) (map r (fresh (m .sc) (faces m) 0 .pix2tri))) threes drawn in
+    let mapped = subst (λ (l : Layer). Alike n (m .tri2vtx) (l .pix2tri) (keptSlice c) (map r (l .pix2tri))) (sym (full-is m)) sliced in
+    subst (λ (names : List ℕ). Alike n (m .tri2vtx) (wholeMap c) (keptSlice c) names) (sym (ap (λ (l : Layer). l .pix2tri) (final-renumbered c))) mapped
 
-  pub passes : Passes c
-  passes =
-      record {
-        values = λ xyz e. values-same xyz (alike-lists xyz e);
-        values-bwd = λ xyz e. values-bwd-same xyz (alike-lists xyz e);
-        edge-types = λ xyz e. edge-types-same xyz (alike-lists xyz e);
-        edge-bwd = λ xyz e. edge-bwd-same xyz (alike-lists xyz e);
-      }
+passes : (c : Case) (xyz : List Float) → length xyz ≡ length (c .mesh .sc .vertices) → Passes c xyz
+passes c xyz e =
+    let a = alike-lists c xyz e in
+    record { values = values-same xyz a; values-bwd = values-bwd-same xyz a; edge-types = edge-types-same xyz a; edge-bwd = edge-bwd-same xyz a }
 
--- "whatever the map": a vertex that is a corner of no face that an entry names keeps its gradient in both backward passes.
-pub record Untouched : Type 0 where
-  pub values-bwd : (tri names : List ℕ) (v : ℕ) → Unnamed (viewOf tri names) v → (g : Image) (s : Vertices) (dldw : List Float) (old : Sums) (k : ℕ) → k < 3
-      → getD (interpolatingBwd g s tri names dldw old .after .xyz) (v * 3 + k) nan ≡ getD (old .xyz) (v * 3 + k) nan
-  pub edge-bwd : (tri names : List ℕ) (v : ℕ) → Unnamed (viewOf tri names) v → (k : ℕ) → k < 3 → (m xyz : List Float) (w h : ℕ) (vals : Signal) (dxyz : List Float)
-      → getD (edgeBwd tri names h (sight (viewOf tri names) m xyz w) vals dxyz .sums) (v * 3 + k) nan ≡ getD dxyz (v * 3 + k) nan
+-- Whatever the map, a vertex of no face in it keeps its gradients in both backward passes, in a refused call too.
+pub record Untouched (tri names : List ℕ) (v : ℕ) : Type 0 where
+  pub values-bwd-xyz : (g : Image) (s : Vertices) (dldw : List Float) (old : Sums) (k : ℕ) → k < 3
+      → getD (interpolatingBwd g s tri names dldw old .left .xyz) (v * 3 + k) nan ≡ getD (old .xyz) (v * 3 + k) nan
+  pub values-bwd-val : (g : Image) (s : Vertices) (dldw : List Float) (old : Sums) (k : ℕ) → k < s .channels
+      → getD (interpolatingBwd g s tri names dldw old .left .val) (v * s .channels + k) nan ≡ getD (old .val) (v * s .channels + k) nan
+  pub edge-bwd : (m xyz : List Float) (w h : ℕ) (vals : PixelValues) (dxyz : List Float) (k : ℕ) → k < 3
+      → getD (edgeBwd tri names h (edgeView (viewOf tri names) m xyz w) vals dxyz .left) (v * 3 + k) nan ≡ getD dxyz (v * 3 + k) nan
+
+untouched : (tri names : List ℕ) (v : ℕ) → Unnamed tri names v → Untouched tri names v
+untouched tri names v free =
+    record {
+      values-bwd-xyz = λ g s dldw old k h. values-bwd-keeps-xyz tri names v free g s dldw old k h;
+      values-bwd-val = λ g s dldw old k h. values-bwd-keeps-val tri names v free g s dldw old k h;
+      edge-bwd = λ m xyz w h vals dxyz k l. edge-bwd-keeps tri names v k l m xyz w vals free h dxyz;
+    }
 
 -- The whole claim.
 pub record Demand3 : Type 0 where
   pub pictures-same : (c : Case) → Pictures c
-  pub passes-same : (c : Case) → Passes c
-  pub gradients-kept : Untouched
+  pub passes-same : (c : Case) (xyz : List Float) → length xyz ≡ length (c .mesh .sc .vertices) → Passes c xyz
+  pub gradients-kept : (tri names : List ℕ) (v : ℕ) → Unnamed tri names v → Untouched tri names v
 
 pub demand3 : Demand3
-demand3 =
-    record {
-      pictures-same = pictures;
-      passes-same = passes;
-      gradients-kept =
-          record {
-            values-bwd = λ tri names v u g s dldw old k h. values-bwd-keeps-xyz tri names v u g s dldw old k h;
-            edge-bwd = λ tri names v u k h m xyz w height vals dxyz. edge-bwd-keeps tri names v u k h m xyz w vals height dxyz;
-          };
-    }
+demand3 = record { pictures-same = pictures; passes-same = passes; gradients-kept = untouched }

@@ -1,15 +1,5 @@
--- Theorems about whole sequences of calls. Nothing here runs.
-pub mod Joins
-pub mod Removal
-pub mod Faces
-pub mod Calls
-pub mod Plan
-pub mod Whole
-pub mod Thinned
-pub mod Views
-pub mod Alike
+-- Demand 3 as one statement, and the marked examples of 01. Nothing here runs.
 pub mod Passes
 pub mod Gradients
 pub mod Demand3
 pub mod Examples
-pub mod Instance

@@ -9,16 +9,16 @@ use Rattle.geometry.specs.Vector.{Vec3, Projected, Triangle, triangle}
 use Rattle.geometry.specs.Formula.{row, over}
 use Rattle.geometry.specs.Leaf.{entries, project, divided}
 use Rattle.meshes.specs.Mesh.{Face, vertexAt, cornersAt}
-use Rattle.slopes.specs.Formula.{projectUntested}
-use Rattle.inside.specs.Inside.{together, present, projectFace, projects}
+use Rattle.jacobians.specs.Formula.{projectUntested}
+use Rattle.inside.specs.Inside.{allThree, present, projectFace, projects}
 
--- each of three that are together is there
-together-all : {A : Type 0} (a b c : Option A) → present (together a b c) ≡ true → (present a ≡ true) × (present b ≡ true) × (present c ≡ true)
-unfolding together present
-together-all none b c e = absurd (false≢true e)
-together-all (some a) none c e = absurd (false≢true e)
-together-all (some a) (some b) none e = absurd (false≢true e)
-together-all (some a) (some b) (some c) e = (refl, refl, refl)
+-- each of three that are all there is there
+all-three-there : {A : Type 0} (a b c : Option A) → present (allThree a b c) ≡ true → (present a ≡ true) × (present b ≡ true) × (present c ≡ true)
+unfolding allThree present
+all-three-there none b c e = absurd (false≢true e)
+all-three-there (some a) none c e = absurd (false≢true e)
+all-three-there (some a) (some b) none e = absurd (false≢true e)
+all-three-there (some a) (some b) (some c) e = (refl, refl, refl)
 
 projected-is : (m : List Float) (x : Vec3 Float) → present (project m x) ≡ true → project m x ≡ some (projectUntested floats (entries m) x)
 unfolding present project divided projectUntested
@@ -30,12 +30,12 @@ projected-is m x e = go (eq (row floats (entries m) 3 x) (floats .zero)) e
     go true e = absurd (false≢true e)
     go false e = refl
 
-all-projected : (m : List Float) (x0 x1 x2 : Vec3 Float) → present (together (project m x0) (project m x1) (project m x2)) ≡ true
-    → together (project m x0) (project m x1) (project m x2)
+all-projected : (m : List Float) (x0 x1 x2 : Vec3 Float) → present (allThree (project m x0) (project m x1) (project m x2)) ≡ true
+    → allThree (project m x0) (project m x1) (project m x2)
     ≡ some (triangle (projectUntested floats (entries m) x0) (projectUntested floats (entries m) x1) (projectUntested floats (entries m) x2))
-unfolding together
+unfolding allThree
 all-projected m x0 x1 x2 e =
-    let k = together-all (project m x0) (project m x1) (project m x2) e in
+    let k = all-three-there (project m x0) (project m x1) (project m x2) e in
     rw (projected-is m x0 (k .0), projected-is m x1 (k .1), projected-is m x2 (k .2))
 
 corners-are : {A : Type 0} {a b c a' b' c' : A} → a ≡ a' → b ≡ b' → c ≡ c' → triangle a b c ≡ triangle a' b' c'

@@ -7,7 +7,7 @@ use Rattle.geometry.specs.Vector.{Vec3, vec3, weights, Triangle, triangle}
 use Rattle.geometry.specs.Formula.{blend, pointFrom}
 use Rattle.rays.specs.Space.{Ray, ray, minus3, dot3, cross3, along3}
 use Rattle.rays.specs.Plane.{normal, distance, hit, weight, weightsAt, weightsOn, planeWeights}
-use Rattle.rays.specs.Backward.{framed, frameOf, meetsT, meetsU, meetsV, weighted, shared, backwardOn, planeBackward}
+use Rattle.rays_bwd.specs.Backward.{framed, frameOf, meetsT, meetsU, meetsV, weighted, shared, backwardOn, planeBackward}
 use Rattle.truth.specs.Laws.{Laws, Invertible}
 use Rattle.truth.specs.Ring.{cancelled}
 use Rattle.truth.specs.Solve.{Expr, var, :1, _:-_, _:*_, _∷₃_, var3, exprs, fixed, from, eval, Equal, by-ring, by-premise}

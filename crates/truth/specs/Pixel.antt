@@ -5,8 +5,8 @@ use Rattle.geometry.specs.Vector.{Vec3, Weights, weights, Triangle}
 use Rattle.geometry.specs.Formula.{blend}
 use Rattle.rays.specs.Space.{Ray}
 use Rattle.rays.specs.Plane.{planeWeights}
-use Rattle.rays.specs.Backward.{Gradients, planeBackward}
-use Rattle.values_bwd.specs.Gather.{gathered}
+use Rattle.rays_bwd.specs.Backward.{Gradients, planeBackward}
+use Rattle.pixel_bwd.specs.Gather.{gathered}
 
 module _ {A : Type 0} (R : Arith A) where
   open Arith R using (add as _⊕_, sub as _⊖_, mul as _⊗_, zero)

@@ -7,8 +7,8 @@ use Rattle.geometry.specs.Arith.{Arith}
 use Rattle.geometry.specs.Vector.{Vec3, Weights, weights, Triangle, Projected, projected}
 use Rattle.geometry.specs.Formula.{blend, pointFrom, row, over}
 use Rattle.rays.specs.Space.{dot3}
-use Rattle.rays.specs.Backward.{shares}
-use Rattle.slopes.specs.Formula.{mat3, untested, jacobianEntry, jacobianColumn, jacobianAt, jacobian, multMat3}
+use Rattle.rays_bwd.specs.Backward.{shares}
+use Rattle.jacobians.specs.Formula.{mat3, projectUntested, jacobianEntry, jacobianColumn, jacobianAt, jacobian, multMat3}
 use Rattle.truth.specs.Laws.{Laws}
 use Rattle.truth.specs.Solve.{same3, var, :0, _∷₃_, var3, exprs, fixed, from, eval, Equal, by-ring}
 use Rattle.truth.specs.Dual.{Dual, dual, duals, still, both, quotient}
@@ -18,7 +18,7 @@ use Rattle.truth.specs.Shares.{shared-out}
 module _ {A : Type 0} (R : Arith A) where
   -- ⟨g, the projection of x⟩
   unfoldable pub projectedBy : (ℕ → A) → Vec3 A → Vec3 A → A
-  projectedBy m g x = dot3 R g (untested R m x .p)
+  projectedBy m g x = dot3 R g (projectUntested R m x .p)
 
   -- what an edge's gradient g in the image gives the corners of a face, at the point of the weights b
   unfoldable pub pulled : (ℕ → A) → Weights A → Vec3 A → Triangle (Vec3 A) → Triangle (Vec3 A)
@@ -31,9 +31,9 @@ module _ {A : Type 0} (R : Arith A) (L : Laws R) where
   open Arith R using (div as _⊘_, one)
 
   infixl 7 _⊘_
-  untested-is : (m : ℕ → A) (x : Vec3 A) → untested R m x ≡ untested (fixed R (one ⊘ row R m 3 x)) m x
-  unfolding untested over row
-  untested-is m x = ap (λ p. projected p (row R m 3 x)) (same3 (L .div-is _ _) (L .div-is _ _) (L .div-is _ _))
+  project-untested-is : (m : ℕ → A) (x : Vec3 A) → projectUntested R m x ≡ projectUntested (fixed R (one ⊘ row R m 3 x)) m x
+  unfolding projectUntested over row
+  project-untested-is m x = ap (λ p. projected p (row R m 3 x)) (same3 (L .div-is _ _) (L .div-is _ _) (L .div-is _ _))
 
   jacobian-is : (m : ℕ → A) (t : Projected A) → jacobianAt R m t ≡ jacobianAt (fixed R (one ⊘ t .w)) m t
   unfolding jacobianAt jacobianColumn jacobianEntry
@@ -49,15 +49,15 @@ module _ {A : Type 0} (R : Arith A) (L : Laws R) where
       c2 = same3 (L .div-is _ _) (L .div-is _ _) (L .div-is _ _)
 
   projected-is : (m : ℕ → A) (x dx : Vec3 A)
-      → untested (duals R) (stillMatrix R m) (moving3 x dx) ≡ untested (duals (fixed R (one ⊘ row R m 3 x))) (stillMatrix R m) (moving3 x dx)
-  unfolding untested over row
+      → projectUntested (duals R) (stillMatrix R m) (moving3 x dx) ≡ projectUntested (duals (fixed R (one ⊘ row R m 3 x))) (stillMatrix R m) (moving3 x dx)
+  unfolding projectUntested over row
   projected-is m x dx = ap (λ p. projected p (row (duals R) (stillMatrix R m) 3 (moving3 x dx))) (same3 (quotient R L _ _) (quotient R L _ _) (quotient R L _ _))
 
   -- the matrix is variables 0 to 15, x 16 to 18, its movement 19 to 21, g 22 to 24, and 25 is 1 / y3
   pull-fixed : (m : ℕ → A) (x dx g : Vec3 A)
       → (let S = fixed R (one ⊘ row R m 3 x) in
       projectedBy (duals S) (stillMatrix S m) (still3 S g) (moving3 x dx) .eps ≡ dot3 S (multMat3 S g (jacobian S m x)) dx)
-  unfolding Equal eval projectedBy untested over row dot3 multMat3 jacobian jacobianAt jacobianColumn jacobianEntry
+  unfolding Equal eval projectedBy projectUntested over row dot3 multMat3 jacobian jacobianAt jacobianColumn jacobianEntry
   pull-fixed m x dx g =
       let E = exprs (var 25) in
       by-ring R L
@@ -68,11 +68,11 @@ module _ {A : Type 0} (R : Arith A) (L : Laws R) where
   -- ⟨g, the projection⟩ moves as the jacobian says. It says something where y3 can be divided by, and holds of any division.
   pub pull-true : (m : ℕ → A) (x dx g : Vec3 A)
       → projectedBy (duals R) (stillMatrix R m) (still3 R g) (moving3 x dx) .eps ≡ dot3 R (multMat3 R g (jacobian R m x)) dx
-  unfolding projectedBy dot3 jacobian multMat3 untested over row
+  unfolding projectedBy dot3 jacobian multMat3 projectUntested over row
   pull-true m x dx g =
       ap (λ (t : Projected (Dual A)). dot3 (duals R) (still3 R g) (t .p) .eps) (projected-is m x dx)
       ∙ pull-fixed m x dx g
-      ∙ sym (ap (λ j. dot3 R (multMat3 R g j) dx) (jacobian-is m (untested R m x) ∙ ap (jacobianAt (fixed R (one ⊘ row R m 3 x)) m) (untested-is m x)))
+      ∙ sym (ap (λ j. dot3 R (multMat3 R g j) dx) (jacobian-is m (projectUntested R m x) ∙ ap (jacobianAt (fixed R (one ⊘ row R m 3 x)) m) (project-untested-is m x)))
 
   blended : (b : Weights A) (p0 p1 p2 q0 q1 q2 : A) → blend (duals R) (stillWeights R b) (dual p0 q0) (dual p1 q1) (dual p2 q2) ≡ dual (blend R b p0 p1 p2) (blend R b q0 q1 q2)
   unfolding Equal eval blend

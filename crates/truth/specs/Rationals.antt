@@ -4,6 +4,8 @@ use Prim.Native.Nat.{ℕ}
 use mathlib.Core.Path.{_≡_, refl, sym, _∙_, ap, subst}
 use mathlib.Core.List.{[], _∷_}
 use mathlib.Core.Logic.{_⊎_, inl, inr}
+use native.Mathlib.Nat.{ℕ-set}
+use native.Mathlib.Omega.{arith}
 use mathlib.Core.Quot.{Quot, Quot·mk, Quot·sound, Quot-set, Quot·lift, ind}
 use lib.IntN.{ℤ, pos, _*ℤ_, zero-*ℤ, *ℤ-comm}
 use Rattle.geometry.specs.Arith.{Arith}
@@ -249,6 +251,27 @@ can-divide x h = alike (multiplied x (multiplied (entire (pos 1)) (inverted x)))
         → Alike (multiplied x (multiplied (entire (pos 1)) (turned (x .ratio .den) (x .ratio .num) z))) (entire (pos 1))
     go (inl z) = absurd (subst NonZero z h)
     go (inr k) = by-fractions x x x (times E X (times E unit (ratio (var 1) (var 0)))) unit refl
+
+-- 1 is not 0: 0 has the numerator 0, and no fraction like 1 has
+abbrev weight : (n : ℤ) → (n ≡ pos 0) ⊎ NonZero n → ℕ
+weight n (inl z) = 0
+weight n (inr h) = 1
+
+abbrev weightOf : Fraction → ℕ
+weightOf x = weight (x .ratio .num) (zero-or-not (x .ratio .num))
+
+weight-alike : (x x' : Fraction) → Alike x x' → weightOf x ≡ weightOf x'
+weight-alike x x' h = go (zero-or-not (x .ratio .num)) (zero-or-not (x' .ratio .num))
+  where
+    go : (z : (x .ratio .num ≡ pos 0) ⊎ NonZero (x .ratio .num)) (z' : (x' .ratio .num ≡ pos 0) ⊎ NonZero (x' .ratio .num))
+        → weight (x .ratio .num) z ≡ weight (x' .ratio .num) z'
+    go (inl z) (inl z') = refl
+    go (inl z) (inr k') = absurd (apart (x .ratio .num) (x .ratio .den) (x' .ratio .num) (x' .ratio .den) h z k' (x .whole))
+    go (inr k) (inl z') = absurd (apart (x' .ratio .num) (x' .ratio .den) (x .ratio .num) (x .ratio .den) (sym h) z' k (x' .whole))
+    go (inr k) (inr k') = refl
+
+pub one-is-not-zero : rationals .one ≡ rationals .zero → ⊥
+one-is-not-zero e = let h : _≡_ {A = ℕ} 1 0 = ap (λ (a : ℚ). Quot·lift ℕ-set weightOf weight-alike a) e in omega arith
 
 -- n / d
 abbrev pub over : (n d : ℤ) → NonZero d → ℚ

@@ -6,7 +6,7 @@ use Rattle.geometry.specs.Arith.{Arith}
 use Rattle.geometry.specs.Vector.{Vec3, Triangle, triangle}
 use Rattle.geometry.specs.Formula.{blend, pointFrom}
 use Rattle.rays.specs.Space.{Ray, minus3, dot3, scaled3, along3}
-use Rattle.rays.specs.Backward.{framed, frameOf, weighted, gradient, shares, shared, backwardOn, planeBackward}
+use Rattle.rays_bwd.specs.Backward.{framed, frameOf, weighted, gradient, shares, shared, backwardOn, planeBackward}
 use Rattle.truth.specs.Laws.{Laws, Invertible}
 use Rattle.truth.specs.Solve.{same3, var, :0, :1, _:+_, _:-_, _:*_, exprs, from, eval, Equal, by-premise}
 use Rattle.truth.specs.Moving.{inner}

@@ -5,7 +5,7 @@ use Rattle.geometry.specs.Arith.{Arith}
 use Rattle.geometry.specs.Vector.{Vec3, Weights, weights, Triangle, triangle}
 use Rattle.geometry.specs.Formula.{blend, pointFrom}
 use Rattle.rays.specs.Space.{Ray, minus3, dot3, cross3, scaled3, along3}
-use Rattle.rays.specs.Backward.{Frame, framed, frameOf, meetsT, meetsU, meetsV, weighted, gradientOn, gradient, shares, shared, backwardOn, planeBackward}
+use Rattle.rays_bwd.specs.Backward.{Frame, framed, frameOf, meetsT, meetsU, meetsV, weighted, gradientOn, gradient, shares, shared, backwardOn, planeBackward}
 use Rattle.truth.specs.Laws.{Laws, Invertible}
 use Rattle.truth.specs.Solve.{same3, var, :0, :1, _:+_, _:-_, _:*_, :-_, _∷₃_, var3, exprs, fixed, from, eval, Equal, by-ring, by-premise}
 use Rattle.truth.specs.Dual.{Dual, dual, duals, still, dual-laws, dual-invertible}

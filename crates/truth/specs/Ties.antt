@@ -9,19 +9,21 @@ use Rattle.geometry.specs.Arith.{floats}
 use Rattle.geometry.specs.Vector.{Vec3, Weights, Triangle}
 use Rattle.geometry.specs.Leaf.{entries}
 use Rattle.rays.specs.Space.{Ray, scaled3}
-use Rattle.rays.specs.Backward.{shares}
+use Rattle.rays_bwd.specs.Backward.{shares}
 use Rattle.meshes.specs.Mesh as Mesh
 use Rattle.meshes.specs.Mesh.{Face}
 use Rattle.meshes.specs.View.{View}
 use Rattle.meshes.specs.Sums as Sums
 use Rattle.lists.specs.Lists.{span}
-use Rattle.values.specs.Pass.{Image, Vertices, rayOf}
+use Rattle.pixel_rays.specs.Rays.{Image, rayOf}
+use Rattle.vertex_values.specs.Pass.{Vertices}
 use Rattle.values.specs.Interpolate as Interpolate
-use Rattle.values_bwd.specs.Additions as Additions
+use Rattle.pixel_bwd.specs.Additions as Additions
+use Rattle.pixel_bwd.specs.Additions.{sums}
 use Rattle.values_bwd.specs.Bwd as Bwd
-use Rattle.values_bwd.specs.Bwd.{sums, summedOver}
+use Rattle.values_bwd.specs.Bwd.{summedOver}
 use Rattle.tris.specs.Tri.{pointOn}
-use Rattle.edge_bwd.specs.Additions.{toVertex, toFace, toPoint, spread}
+use Rattle.scattering.specs.Scattering.{toVertex, toFace, toPoint, spread}
 use Rattle.truth.specs.Pixel.{valueAt, incoming, backward, gradientsAt, toValue}
 use Rattle.truth.specs.Projection.{pulled}
 use Rattle.truth.specs.Image.{Scene, Addition, cornersAt, valuesAt, toXyz, toVal, pixelXyz, pixelVal, xyzAt, valAt, imageXyz, imageVal, added, summed}
@@ -79,7 +81,7 @@ module _ (g : Image) (s : Vertices) (v : View) (dldw : List Float) where
   val-given none q d = refl
 
   -- what it leaves in the two accumulators after n pixels
-  pub sums-at-floats : (n : ℕ) (old : Bwd.Sums)
+  pub sums-at-floats : (n : ℕ) (old : Additions.Sums)
       → summedOver g s v dldw 0 n old ≡ sums (summed floats nan (old .xyz) (imageXyz floats scene n)) (summed floats nan (old .val) (imageVal floats scene n))
   unfolding summedOver Bwd.xyzAt Bwd.valAt
   sums-at-floats n old =

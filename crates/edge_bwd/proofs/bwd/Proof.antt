@@ -1,7 +1,8 @@
 use mathlib.Core.Path.{sym, _∙_}
 use native.Mathlib.Omega.{arith}
 use borrow.Author.Needs.{needs}
-use Rattle.edge_bwd.proofs.Calls.{bwd-accepted, bwd-refused, bwd-done}
+use Rattle.edge_bwd.specs.Laws.{bwd-accepted}
+use Rattle.edge_bwd.proofs.Calls.{bwd-refused, bwd-done}
 use Rattle.edge_bwd.proofs.bwd.Statement.{statement}
 use Rattle.edge_bwd.proofs.bwd.Tie as tie
 
@@ -17,12 +18,12 @@ returns c = bwd-refused _ _ _ _ _ _ _ (c .before .bwd-code .ensures) (c .if1 .ta
 scatter-axis-requires : tie.Need-scatter-axis-requires
 scatter-axis-requires c κs =
     let known = bwd-accepted _ _ _ _ _ _ (sym (c .before .before .bwd-code .ensures) ∙ c .before .if1 .left) in
-    (known .0 .image, (known .0 .signals, (known .0 .sums, (search needs, known .1))))
+    (known .image, (known .values, (known .sums, (search needs, known .hedges))))
 
 scatter-axis-requires-2 : tie.Need-scatter-axis-requires-2
 scatter-axis-requires-2 c κs =
     let known = bwd-accepted _ _ _ _ _ _ (sym (c .before .before .before .before .before .before .bwd-code .ensures) ∙ c .before .before .before .before .before .if1 .left) in
-    (known .0 .image, (known .0 .signals, (omega (arith, known .0 .sums), (search needs, known .2))))
+    (known .image, (known .values, (omega (arith, known .sums), (search needs, known .vedges))))
 
 same-length-2 : tie.Need-same-length-2
 same-length-2 c = search needs

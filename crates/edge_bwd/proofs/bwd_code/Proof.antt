@@ -1,146 +1,57 @@
-use Rattle.questions.specs.Questions.{firstNo}
-use Rattle.lists.specs.Laws.Tests.{said-no, said-yes}
-use Rattle.questions.specs.Laws.{sized, channelled}
-use Rattle.edges.specs.Gradient.{signal}
+use mathlib.Core.Path.{sym, _∙_}
+use mathlib.Core.List.{[]}
+use Rattle.lists.specs.Laws.Tests.{said-no, said-yes, after-no, after-yes}
+use Rattle.questions.specs.Laws.{refuses, passes, exact-yes, exact-no}
+use Rattle.questions.specs.Laws.Opening.{first-refused, opened, past-opening}
+use Rattle.pairs.specs.Laws.{pixels-exact}
 use Rattle.edge_bwd.specs.Calls.{bwdCode}
-use Rattle.edge_bwd.proofs.Calls.{ready}
 use borrow.Author.Needs.{needs}
 use Rattle.edge_bwd.proofs.bwd_code.Statement.{statement}
 use Rattle.edge_bwd.proofs.bwd_code.Tie as tie
 
-sizes-ok-requires : tie.Need-sizes-ok-requires
-sizes-ok-requires c κs = search needs
+opening-code-requires : tie.Need-opening-code-requires
+opening-code-requires c κs = search needs
 
 returns : tie.Need-returns
-unfolding bwdCode firstNo
-returns c = rw (said-no (c .before .sizes-ok .ensures) (c .if1 .taken))
+unfolding bwdCode
+returns c = let e = c .before .opening-code .ensures in e ∙ first-refused _ _ (λ z. c .if1 .taken (e ∙ z))
 
-channels-ok-requires : tie.Need-channels-ok-requires
-channels-ok-requires c κs = search needs
+pixels-ok-requires : tie.Need-pixels-ok-requires
+pixels-ok-requires c κs =
+    let o = opened _ _ _ _ _ [] (sym (c .before .opening-code .ensures) ∙ c .if1 .left) .0 in (o .size, o .few)
 
 returns-2 : tie.Need-returns-2
-unfolding bwdCode firstNo
+unfolding bwdCode
 returns-2 c =
-    rw (
-      said-yes (c .before .before .before .sizes-ok .ensures) (c .before .before .if1 .left),
-      said-no (c .before .channels-ok .ensures) (c .if2 .taken),
-    )
-
-groups-ok-requires : tie.Need-groups-ok-requires
-groups-ok-requires c κs = search needs
+    let first = c .before .before in
+    past-opening _ _ _ _ _ _ (sym (first .before .opening-code .ensures) ∙ first .if1 .left)
+    (refuses 4 _ (after-no _ (said-no (c .before .pixels-ok .ensures) (c .if2 .taken))))
 
 returns-3 : tie.Need-returns-3
-unfolding bwdCode firstNo
+unfolding bwdCode
 returns-3 c =
-    rw (
-      said-yes (c .before .before .before .before .before .sizes-ok .ensures) (c .before .before .before .before .if1 .left),
-      said-yes (c .before .before .before .channels-ok .ensures) (c .before .before .if2 .left),
-      said-no (c .before .groups-ok .ensures) (c .if3 .taken),
-    )
+    let second = c .before in
+    let first = second .before .before in
+    past-opening _ _ _ _ _ _ (sym (first .before .opening-code .ensures) ∙ first .if1 .left)
+    (refuses 4 _ (after-yes (said-yes (second .before .pixels-ok .ensures) (second .if2 .left)) (exact-no _ _ (c .if3 .taken))))
 
-groups-ok-requires-2 : tie.Need-groups-ok-requires-2
-groups-ok-requires-2 c κs = search needs
+closing-code-requires : tie.Need-closing-code-requires
+closing-code-requires c κs =
+    let second = c .before in
+    let first = second .before .before in
+    let o = opened _ _ _ _ _ [] (sym (first .before .opening-code .ensures) ∙ first .if1 .left) .0 in
+    (o .size, (o .faces, (o .vertices, pixels-exact _ _ _ _ (o .few) (said-yes (second .before .pixels-ok .ensures) (second .if2 .left)) .0)))
 
 returns-4 : tie.Need-returns-4
-unfolding bwdCode firstNo
+unfolding bwdCode
 returns-4 c =
-    rw (
-      said-yes (c .before .before .before .before .before .before .before .sizes-ok .ensures) (c .before .before .before .before .before .before .if1 .left),
-      said-yes (c .before .before .before .before .before .channels-ok .ensures) (c .before .before .before .before .if2 .left),
-      said-yes (c .before .before .before .groups-ok .ensures) (c .before .before .if3 .left),
-      said-no (c .before .groups-ok2 .ensures) (c .if4 .taken),
-    )
-
-lengths-ok-requires : tie.Need-lengths-ok-requires
-lengths-ok-requires c κs = (sized 1 _ _ (said-yes (c .before .before .before .before .before .before .before .sizes-ok .ensures) (c .before .before .before .before .before .before .if1 .left)), channelled _ (said-yes (c .before .before .before .before .before .channels-ok .ensures) (c .before .before .before .before .if2 .left)))
-
-returns-5 : tie.Need-returns-5
-unfolding bwdCode firstNo
-returns-5 c =
-    rw (
-      said-yes (c .before .before .before .before .before .before .before .before .before .sizes-ok .ensures) (c .before .before .before .before .before .before .before .before .if1 .left),
-      said-yes (c .before .before .before .before .before .before .before .channels-ok .ensures) (c .before .before .before .before .before .before .if2 .left),
-      said-yes (c .before .before .before .before .before .groups-ok .ensures) (c .before .before .before .before .if3 .left),
-      said-yes (c .before .before .before .groups-ok2 .ensures) (c .before .before .if4 .left),
-      said-no (c .before .lengths-ok .ensures) (c .if5 .taken),
-    )
-
-all-below-requires : tie.Need-all-below-requires
-all-below-requires c κs = search needs
-
-returns-6 : tie.Need-returns-6
-unfolding bwdCode firstNo
-returns-6 c =
-    rw (
-      said-yes (c .before .before .before .before .before .before .before .before .before .before .before .sizes-ok .ensures) (c .before .before .before .before .before .before .before .before .before .before .if1 .left),
-      said-yes (c .before .before .before .before .before .before .before .before .before .channels-ok .ensures) (c .before .before .before .before .before .before .before .before .if2 .left),
-      said-yes (c .before .before .before .before .before .before .before .groups-ok .ensures) (c .before .before .before .before .before .before .if3 .left),
-      said-yes (c .before .before .before .before .before .groups-ok2 .ensures) (c .before .before .before .before .if4 .left),
-      said-yes (c .before .before .before .lengths-ok .ensures) (c .before .before .if5 .left),
-      said-no (c .before .all-below .ensures) (c .if6 .taken),
-    )
-
-names-faces-requires : tie.Need-names-faces-requires
-names-faces-requires c κs = search needs
-
-returns-7 : tie.Need-returns-7
-unfolding bwdCode firstNo
-returns-7 c =
-    rw (
-      said-yes (c .before .before .before .before .before .before .before .before .before .before .before .before .before .sizes-ok .ensures) (c .before .before .before .before .before .before .before .before .before .before .before .before .if1 .left),
-      said-yes (c .before .before .before .before .before .before .before .before .before .before .before .channels-ok .ensures) (c .before .before .before .before .before .before .before .before .before .before .if2 .left),
-      said-yes (c .before .before .before .before .before .before .before .before .before .groups-ok .ensures) (c .before .before .before .before .before .before .before .before .if3 .left),
-      said-yes (c .before .before .before .before .before .before .before .groups-ok2 .ensures) (c .before .before .before .before .before .before .if4 .left),
-      said-yes (c .before .before .before .before .before .lengths-ok .ensures) (c .before .before .before .before .if5 .left),
-      said-yes (c .before .before .before .all-below .ensures) (c .before .before .if6 .left),
-      said-no (c .before .names-faces .ensures) (c .if7 .taken),
-    )
-
-pairs-code-requires : tie.Need-pairs-code-requires
-pairs-code-requires c κs =
-    let known =
-    ready _ _ _ _ _ (signal _ _ _) _
-    (said-yes (c .before .before .before .before .before .before .before .before .before .before .before .before .before .sizes-ok .ensures) (c .before .before .before .before .before .before .before .before .before .before .before .before .if1 .left))
-    (said-yes (c .before .before .before .before .before .before .before .before .before .before .before .channels-ok .ensures) (c .before .before .before .before .before .before .before .before .before .before .if2 .left))
-    (said-yes (c .before .before .before .before .before .before .before .before .before .groups-ok .ensures) (c .before .before .before .before .before .before .before .before .if3 .left))
-    (said-yes (c .before .before .before .before .before .before .before .groups-ok2 .ensures) (c .before .before .before .before .before .before .if4 .left))
-    (said-yes (c .before .before .before .before .before .lengths-ok .ensures) (c .before .before .before .before .if5 .left))
-    (said-yes (c .before .before .before .all-below .ensures) (c .before .before .if6 .left))
-    (said-yes (c .before .names-faces .ensures) (c .if7 .left))
-    in
-    known .image
-
-returns-8 : tie.Need-returns-8
-unfolding bwdCode firstNo
-returns-8 c =
-    rw (
-      said-yes (c .before .before .before .before .before .before .before .before .before .before .before .before .before .before .sizes-ok .ensures) (c .before .before .before .before .before .before .before .before .before .before .before .before .before .if1 .left),
-      said-yes (c .before .before .before .before .before .before .before .before .before .before .before .before .channels-ok .ensures) (c .before .before .before .before .before .before .before .before .before .before .before .if2 .left),
-      said-yes (c .before .before .before .before .before .before .before .before .before .before .groups-ok .ensures) (c .before .before .before .before .before .before .before .before .before .if3 .left),
-      said-yes (c .before .before .before .before .before .before .before .before .groups-ok2 .ensures) (c .before .before .before .before .before .before .before .if4 .left),
-      said-yes (c .before .before .before .before .before .before .lengths-ok .ensures) (c .before .before .before .before .before .if5 .left),
-      said-yes (c .before .before .before .before .all-below .ensures) (c .before .before .before .if6 .left),
-      said-yes (c .before .before .names-faces .ensures) (c .before .if7 .left),
-    )
-    (c .pairs-code .ensures)
+    let third = c .before in
+    let second = third .before in
+    let first = second .before .before in
+    past-opening _ _ _ _ _ _ (sym (first .before .opening-code .ensures) ∙ first .if1 .left)
+    (passes 4 _ (after-yes (said-yes (second .before .pixels-ok .ensures) (second .if2 .left)) (exact-yes _ _ (third .if3 .left))) (c .closing-code .ensures))
 
 pub bwd-code-spec : {M : Type 1} → statement M
 bwd-code-spec =
     tie.close
-    (tie.spec
-    sizes-ok-requires
-    returns
-    channels-ok-requires
-    returns-2
-    groups-ok-requires
-    returns-3
-    groups-ok-requires-2
-    returns-4
-    lengths-ok-requires
-    returns-5
-    all-below-requires
-    returns-6
-    names-faces-requires
-    returns-7
-    pairs-code-requires
-    returns-8)
+    (tie.spec opening-code-requires returns pixels-ok-requires returns-2 returns-3 closing-code-requires returns-4)

@@ -3,7 +3,7 @@ use native.Mathlib.Omega.{arith}
 use Rattle.meshes.specs.Mesh.{faceAt}
 use Rattle.meshes.specs.Laws.{corner-there}
 use Rattle.scattering.specs.Scattering.{toFace}
-use Rattle.scattering.specs.Laws.{summed-then}
+use Rattle.meshes.specs.Laws.{summed-then}
 use borrow.Author.Needs.{needs}
 use Rattle.scattering.proofs.add_face.Statement.{statement}
 use Rattle.scattering.proofs.add_face.Tie as tie

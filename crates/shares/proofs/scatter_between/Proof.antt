@@ -12,8 +12,8 @@ use borrow.Author.Needs.{needs}
 use Rattle.shares.proofs.scatter_between.Statement.{statement}
 use Rattle.shares.proofs.scatter_between.Tie as tie
 
-inside-requires : tie.Need-inside-requires
-inside-requires c κs = search needs
+face-contains-requires : tie.Need-face-contains-requires
+face-contains-requires c κs = search needs
 
 tri-new-requires : tie.Need-tri-new-requires
 tri-new-requires c κs = search needs
@@ -39,7 +39,7 @@ returns c =
     let s = a .before .before .before .before .before in
     let o0 = b .before .before .tri-new .ensures in
     rw (
-      both-contain (s .args .axis) (s .args .m .now) (s .args .vtx2xyz .now) (faceAt (s .args .tri2vtx .now) (s .args .i0)) (faceAt (s .args .tri2vtx .now) (s .args .i1)) (point2 (s .args .q0)) (point2 (s .args .q1)) o0 (n .tri-new2 .ensures) (so (a .before .inside .ensures) (a .if1 .taken))
+      both-contain (s .args .axis) (s .args .m .now) (s .args .vtx2xyz .now) (faceAt (s .args .tri2vtx .now) (s .args .i0)) (faceAt (s .args .tri2vtx .now) (s .args .i1)) (point2 (s .args .q0)) (point2 (s .args .q1)) o0 (n .tri-new2 .ensures) (so (a .before .face-contains .ensures) (a .if1 .taken))
           (inside-is o0 (point2 (s .args .q1)) ∙ so (b .before .is-inside .ensures) (b .if2 .taken)),
       ← (crossing-adds o0 (n .tri-new2 .ensures) (s .args .axis) (point2 (s .args .q0)) (point2 (s .args .q1)) (s .args .d)),
     )
@@ -62,22 +62,22 @@ returns-2 c =
     let s = a .before .before .before .before .before in
     let o0 = b .before .before .tri-new .ensures in
     rw (
-      second-contains (s .args .axis) (s .args .m .now) (s .args .vtx2xyz .now) (faceAt (s .args .tri2vtx .now) (s .args .i0)) (faceAt (s .args .tri2vtx .now) (s .args .i1)) (point2 (s .args .q0)) (point2 (s .args .q1)) (so (a .before .inside .ensures) (a .if1 .taken))
+      second-contains (s .args .axis) (s .args .m .now) (s .args .vtx2xyz .now) (faceAt (s .args .tri2vtx .now) (s .args .i0)) (faceAt (s .args .tri2vtx .now) (s .args .i1)) (point2 (s .args .q0)) (point2 (s .args .q1)) (so (a .before .face-contains .ensures) (a .if1 .taken))
           (inside-is o0 (point2 (s .args .q1)) ∙ so (b .before .is-inside .ensures) (b .if2 .left)),
       ← (one-adds o0 (s .args .d) (point2 (s .args .q0)) (along (s .args .axis))),
       ← (k .before .along .ensures),
     )
     (k .scatter .ensures)
 
-inside-requires-2 : tie.Need-inside-requires-2
-inside-requires-2 c κs = search needs
+face-contains-requires-2 : tie.Need-face-contains-requires-2
+face-contains-requires-2 c κs = search needs
 
 returns-3 : tie.Need-returns-3
 unfolding summed flatMap
 returns-3 c =
     let a = c .before .before in
     let s = a .before .before .before .before .before in
-    rw (neither-contains (s .args .axis) (s .args .m .now) (s .args .vtx2xyz .now) (faceAt (s .args .tri2vtx .now) (s .args .i0)) (faceAt (s .args .tri2vtx .now) (s .args .i1)) (point2 (s .args .q0)) (point2 (s .args .q1)) (so (a .before .inside .ensures) (a .if1 .left)) (said-no (c .before .inside2 .ensures) (c .if3 .taken)))
+    rw (neither-contains (s .args .axis) (s .args .m .now) (s .args .vtx2xyz .now) (faceAt (s .args .tri2vtx .now) (s .args .i0)) (faceAt (s .args .tri2vtx .now) (s .args .i1)) (point2 (s .args .q0)) (point2 (s .args .q1)) (so (a .before .face-contains .ensures) (a .if1 .left)) (said-no (c .before .face-contains2 .ensures) (c .if3 .taken)))
 
 tri-new-requires-3 : tie.Need-tri-new-requires-3
 tri-new-requires-3 c κs = search needs
@@ -99,7 +99,7 @@ returns-4 c =
     let a = b .before .before in
     let s = a .before .before .before .before .before in
     rw (
-      first-contains (s .args .axis) (s .args .m .now) (s .args .vtx2xyz .now) (faceAt (s .args .tri2vtx .now) (s .args .i0)) (faceAt (s .args .tri2vtx .now) (s .args .i1)) (point2 (s .args .q0)) (point2 (s .args .q1)) (so (a .before .inside .ensures) (a .if1 .left)) (said-yes (b .before .inside2 .ensures) (b .if3 .left)),
+      first-contains (s .args .axis) (s .args .m .now) (s .args .vtx2xyz .now) (faceAt (s .args .tri2vtx .now) (s .args .i0)) (faceAt (s .args .tri2vtx .now) (s .args .i1)) (point2 (s .args .q0)) (point2 (s .args .q1)) (so (a .before .face-contains .ensures) (a .if1 .left)) (said-yes (b .before .face-contains2 .ensures) (b .if3 .left)),
       ← (one-adds (n .tri-new3 .ensures) (s .args .d) (point2 (s .args .q1)) (along (s .args .axis))),
       ← (k .before .along2 .ensures),
     )
@@ -109,7 +109,7 @@ pub scatter-between-spec : {M : Type 1} → statement M
 scatter-between-spec =
     tie.close
     (tie.spec
-    inside-requires
+    face-contains-requires
     tri-new-requires
     is-inside-requires
     tri-new-requires-2
@@ -120,7 +120,7 @@ scatter-between-spec =
     scatter-requires
     same-length-2
     returns-2
-    inside-requires-2
+    face-contains-requires-2
     returns-3
     tri-new-requires-3
     along-requires-2

@@ -1,7 +1,7 @@
 use mathlib.Core.Path.{sym, _∙_}
 use Rattle.meshes.specs.Sums.{summed}
 use Rattle.shares.specs.Steps.{givenCrossing, givenBoth}
-use Rattle.scattering.specs.Laws.{summed-then}
+use Rattle.meshes.specs.Laws.{summed-then}
 use Rattle.shares.proofs.Cases.{sound-again}
 use borrow.Author.Needs.{needs}
 use Rattle.shares.proofs.scatter_intersection_gradient.Statement.{statement}

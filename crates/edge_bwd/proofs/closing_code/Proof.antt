@@ -1,0 +1,26 @@
+use mathlib.Core.Path.{sym, _∙_}
+use mathlib.Core.List.{[]}
+use Rattle.questions.specs.Laws.Opening.{first-refused, named-well, past-naming}
+use Rattle.meshes.specs.Laws.{sound}
+use borrow.Author.Needs.{needs}
+use Rattle.edge_bwd.proofs.closing_code.Statement.{statement}
+use Rattle.edge_bwd.proofs.closing_code.Tie as tie
+
+naming-code-requires : tie.Need-naming-code-requires
+naming-code-requires c κs = search needs
+
+returns : tie.Need-returns
+returns c = let e = c .before .naming-code .ensures in e ∙ first-refused _ _ (λ z. c .if1 .taken (e ∙ z))
+
+pairs-code-requires : tie.Need-pairs-code-requires
+pairs-code-requires c κs =
+    let pre = c .before .before .before .before .before .pre in
+    let names = named-well _ _ _ [] (sym (c .before .naming-code .ensures) ∙ c .if1 .left) in
+    sound (pre .0) (pre .1 .0) (pre .1 .1 .0) (pre .1 .1 .1) (names .0) (names .1)
+
+returns-2 : tie.Need-returns-2
+returns-2 c =
+    let named = c .before in past-naming _ _ _ _ (sym (named .before .naming-code .ensures) ∙ named .if1 .left) (c .pairs-code .ensures)
+
+pub closing-code-spec : {M : Type 1} → statement M
+closing-code-spec = tie.close (tie.spec naming-code-requires returns pairs-code-requires returns-2)

@@ -1,0 +1,1 @@
+-- Nothing is defined here: the contract cites what the calls' contracts cite.
