@@ -64,25 +64,25 @@ empty-names : (n : ℕ) → namesFace n empty ≡ true
 unfolding namesFace
 empty-names n = or-true (ltb empty n)
 
-unseen : (tri names : List ℕ) (v : ℕ) → Unnamed tri names v → namesFaces (length tri / 3) names ≡ true → Unseen (viewOf tri names) v
-unseen tri names v free yes p f e = go (eqb entry empty) refl
+-- what an entry names, where it is below the face count or empty
+shown-free : (tri : List ℕ) (v entry : ℕ) → (entry < length tri / 3 → Free (faceAt tri entry) v) → namesFace (length tri / 3) entry ≡ true → FreeIn (named tri entry) v
+shown-free tri v entry free ok f e = go (eqb entry empty) refl
   where
-    entry : ℕ
-    entry = entryAt names p
+    never : none ≡ some f → ⊥
+    never h = let z : _≡_ {A = ℕ} 0 1 = cc in omega arith
+
+    same : some (faceAt tri entry) ≡ some f → faceAt tri entry ≡ f
+    same h = cc
 
     go : (b : Bool) → eqb entry empty ≡ b → Free f v
-    unfolding entry
     go true k = absurd (never (sym (named-none tri entry (eqb-true _ _ k)) ∙ e))
-      where
-        never : none ≡ some f → ⊥
-        never h = let z : _≡_ {A = ℕ} 0 1 = cc in omega arith
     go false k =
-        let there = face-below (length tri / 3) entry (every-any (namesFace (length tri / 3)) empty (empty-names (length tri / 3)) names yes p) (eqb-false _ _ k) in
-        let same : faceAt tri entry ≡ f = same-face (sym (named-some tri entry (eqb-false _ _ k)) ∙ e) in
-        subst (λ (g : Face). Free g v) same (free p there)
-      where
-        same-face : some (faceAt tri entry) ≡ some f → faceAt tri entry ≡ f
-        same-face h = cc
+        let other = eqb-false _ _ k in
+        subst (λ (g : Face). Free g v) (same (sym (named-some tri entry other) ∙ e)) (free (face-below (length tri / 3) entry ok other))
+
+unseen : (tri names : List ℕ) (v : ℕ) → Unnamed tri names v → namesFaces (length tri / 3) names ≡ true → Unseen (viewOf tri names) v
+unseen tri names v free ok p =
+    shown-free tri v (entryAt names p) (free p) (every-any (namesFace (length tri / 3)) empty (empty-names (length tri / 3)) names ok p)
 
 -- ---- additions that name no place of v
 

@@ -5,20 +5,20 @@ use Rattle.edge_bwd.proofs.pairs_code.Statement.{statement}
 use Rattle.edge_bwd.proofs.pairs_code.Tie as tie
 
 quickly-answered-requires : tie.Need-quickly-answered-requires
-quickly-answered-requires c κs = c .pre
+quickly-answered-requires c κs = c .before .before .before .pre
 
 returns : tie.Need-returns
 returns c = let yes = c .before .quickly-answered .ensures (c .if1 .taken) in passes 8 _ (yes .0) (passes 9 _ (yes .1) ends)
 
 both-answered-requires : tie.Need-both-answered-requires
-both-answered-requires c κs = c .before .before .pre
+both-answered-requires c κs = c .before .before .before .before .before .pre
 
 returns-2 : tie.Need-returns-2
 returns-2 c = refuses 8 _ (said-no (c .before .both-answered .ensures) (c .if2 .taken))
 
 both-ok-requires : tie.Need-both-ok-requires
 both-ok-requires c κs =
-    (c .before .before .before .before .pre, said-yes (c .before .both-answered .ensures) (c .if2 .left))
+    (c .before .before .before .before .before .before .before .pre, said-yes (c .before .both-answered .ensures) (c .if2 .left))
 
 returns-3 : tie.Need-returns-3
 returns-3 c =
