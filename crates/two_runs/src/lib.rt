@@ -6,8 +6,29 @@ ghost use lib.ListN.{length};
 ghost use Rattle.questions.specs.Questions.{outcome};
 ghost use Rattle.layers.specs.Layer.{layer};
 ghost use Rattle.layers.specs.Steps.{Spans};
+ghost use Rattle.layers.specs.Calls.{clearing};
 ghost use Rattle.rules.specs.Calls.{drawCode, draws};
 ghost use Rattle.sequences.specs.Whole.{cleared};
+
+// Clears a layer and draws a run of a mesh's faces on it, numbered from `first`.
+fn draw_run(
+    pix2tri: &mut [u32],
+    pix2depth: &mut [f32],
+    tri2vtx: &[u32],
+    vtx2xyz: &[f32],
+    img_w: usize,
+    img_h: usize,
+    m: &[f32; 16],
+    first: u32,
+)
+    ensures { λ r. ⌜ layer (now (pix2tri .exit)) (now (pix2depth .exit))
+        ≡ draws (clearing (layer (now (pix2tri .entry)) (now (pix2depth .entry))) «img_w» «img_h» .left) (now (tri2vtx .entry)) (now (vtx2xyz .entry)) «img_w» «img_h» (now (m .entry)) first .left ⌝ }
+{
+    layers::clear(pix2tri, pix2depth, img_w, img_h);
+    drawing::pix2tri_by_rasterization(
+        pix2tri, pix2depth, tri2vtx, vtx2xyz, img_w, img_h, m, first,
+    );
+}
 
 // The first `count` faces go to the left layer, the others, numbered on, to the right one. Joined, the left layer is what one draw of the whole mesh leaves
 // in a cleared layer. That is the theorem, and no proof here looks into a call.
@@ -31,8 +52,7 @@ pub fn draw_in_two_runs(
         ≡ draws (cleared («img_w» * «img_h»)) (now (tri2vtx .entry)) (now (vtx2xyz .entry)) «img_w» «img_h» (now («transform_world2ndc» .entry)) 0 ⌝ }
 {
     let cut = 3 * count;
-    layers::clear(left_pix2tri, left_pix2depth, img_w, img_h);
-    drawing::pix2tri_by_rasterization(
+    draw_run(
         left_pix2tri,
         left_pix2depth,
         &tri2vtx[..cut],
@@ -42,8 +62,7 @@ pub fn draw_in_two_runs(
         transform_world2ndc,
         0,
     );
-    layers::clear(right_pix2tri, right_pix2depth, img_w, img_h);
-    drawing::pix2tri_by_rasterization(
+    draw_run(
         right_pix2tri,
         right_pix2depth,
         &tri2vtx[cut..],
