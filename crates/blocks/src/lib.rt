@@ -1,7 +1,5 @@
 // Pixels of a layer to which depths are brought: one, and a block of four in a row, loaded together, stepped together, stored together.
 
-mod cells;
-
 ghost use mathlib.Core.Path.{_≡_};
 ghost use mathlib.Core.Bool.{_||_};
 ghost use Prim.Native.Nat.{_+_};
@@ -61,14 +59,14 @@ fn put_four(
     let t1 = pix2tri[p + 1];
     let t2 = pix2tri[p + 2];
     let t3 = pix2tri[p + 3];
-    pix2depth[p] = cells::pick_depth(d0, z0);
-    pix2depth[p + 1] = cells::pick_depth(d1, z1);
-    pix2depth[p + 2] = cells::pick_depth(d2, z2);
-    pix2depth[p + 3] = cells::pick_depth(d3, z3);
-    pix2tri[p] = cells::pick_number(d0, z0, t0, number);
-    pix2tri[p + 1] = cells::pick_number(d1, z1, t1, number);
-    pix2tri[p + 2] = cells::pick_number(d2, z2, t2, number);
-    pix2tri[p + 3] = cells::pick_number(d3, z3, t3, number);
+    pix2depth[p] = layers::cells::pick_depth(d0, z0);
+    pix2depth[p + 1] = layers::cells::pick_depth(d1, z1);
+    pix2depth[p + 2] = layers::cells::pick_depth(d2, z2);
+    pix2depth[p + 3] = layers::cells::pick_depth(d3, z3);
+    pix2tri[p] = layers::cells::pick_number(d0, z0, t0, number);
+    pix2tri[p + 1] = layers::cells::pick_number(d1, z1, t1, number);
+    pix2tri[p + 2] = layers::cells::pick_number(d2, z2, t2, number);
+    pix2tri[p + 3] = layers::cells::pick_number(d3, z3, t3, number);
 }
 
 // The same, where there is something to bring: memory is not touched for nothing.
