@@ -1,12 +1,12 @@
 -- The box between the ends of a piece's columns and rows is its scan; and pixels to which a piece brings nothing.
 use Prim.Native.Nat.{ℕ, _≤_, _<_}
-use mathlib.Core.Path.{_≡_, refl, sym, _∙_}
+use mathlib.Core.Path.{_≡_, refl, sym}
 use mathlib.Core.Bool.{Bool, true, false, _&&_, cond, false≢true}
 use mathlib.Core.List.{List, []}
 use native.Mathlib.Omega.{arith}
 use lib.Ieee.{Float}
+use lib.Ieee.Scale.{finite}
 use Rattle.geometry.specs.Vector.{Vec3, Triangle}
-use Rattle.geometry.specs.Leaf.{finite}
 use Rattle.pixels.specs.Pixel.{centre}
 use Rattle.rules.specs.Scan.{centreAt, depthAt, candidate, scans, spans, between, least, greatest}
 use Rattle.rules.specs.Laws.Finite.{allFinite, columns-finite, rows-finite}

@@ -1,7 +1,7 @@
 // The columns or rows whose centres lie in an interval. A guess is tested as it stands, and searched from only where it is wrong.
 
 ghost use mathlib.Core.Path.{_≡_};
-ghost use mathlib.Core.Bool.{Bool, true, false};
+ghost use mathlib.Core.Bool.{true, false};
 ghost use Prim.Native.Nat.{ℕ, _≤_, _<_};
 ghost use Rattle.pixels.specs.Pixel.{centre};
 ghost use Rattle.rules.specs.Scan as scan;

@@ -3,10 +3,10 @@ use mathlib.Core.Bool.{Bool, not, _||_, cond}
 use Prim.Native.Nat.{ℕ}
 use lib.Dec.{eqb}
 use lib.Ieee.{Float, binary32, ofBits, lt, le, eq}
+use lib.Ieee.Scale.{finite}
 use Rattle.floats.specs.Narrow.{hypotOf}
 use Rattle.geometry.specs.Arith.{Arith, floats}
 use Rattle.geometry.specs.Vector.{Vec3, vec3}
-use Rattle.geometry.specs.Leaf.{finite}
 use Rattle.rays.specs.Space.{scaled3}
 open Arith floats using (sub as _⊖_, mul as _⊗_, div as _⊘_, neg, zero)
 

@@ -28,8 +28,8 @@ module _ {A : Type 0} (R : Arith A) where
   total a = a .b0 ⊕ a .b1 ⊕ a .b2
 
   -- .. and the weights a/s
-  unfoldable pub shares : Weights A → A → Weights A
-  shares a s = weights (a .b0 ⊘ s) (a .b1 ⊘ s) (a .b2 ⊘ s)
+  unfoldable pub overTotal : Weights A → A → Weights A
+  overTotal a s = weights (a .b0 ⊘ s) (a .b1 ⊘ s) (a .b2 ⊘ s)
 
   -- one coordinate of a point from weights b: b0p0+b1p1+b2p2
   unfoldable pub blend : Weights A → A → A → A → A

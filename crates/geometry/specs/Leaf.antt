@@ -1,22 +1,18 @@
 -- 01's leaves at f32, with their tests: what has an answer and what has none.
 use Prim.Native.Nat.{ℕ}
-use mathlib.Core.Bool.{Bool, true, false, not, _&&_, cond}
+use mathlib.Core.Bool.{not, _&&_, cond}
 use mathlib.Core.Option.{Option, none, some}
 use mathlib.Core.List.{List}
 use lib.ListN.{getD}
-use lib.Ieee.{Float, nan, inf, fin, eq}
+use lib.Ieee.Scale.{finite}
+use lib.Ieee.{Float, nan, eq}
 use Rattle.geometry.specs.Arith.{floats}
 use Rattle.geometry.specs.Vector.{Vec2, Vec3, Weights, Projected}
-use Rattle.geometry.specs.Formula.{areas, total, shares, row, over}
-
-unfoldable pub finite : Float → Bool
-finite nan = false
-finite (inf s) = false
-finite (fin s m e) = true
+use Rattle.geometry.specs.Formula.{areas, total, overTotal, row, over}
 
 -- Either three weights a/s, or none, when s is 0 or not finite
 unfoldable pub weighed : Weights Float → Float → Option (Weights Float)
-weighed a s = cond (finite s && not (eq s (floats .zero))) (some (shares floats a s)) none
+weighed a s = cond (finite s && not (eq s (floats .zero))) (some (overTotal floats a s)) none
 
 unfoldable pub weighedAll : Weights Float → Option (Weights Float)
 weighedAll a = weighed a (total floats a)

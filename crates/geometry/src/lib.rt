@@ -5,6 +5,7 @@ ghost use Prim.Native.Nat.{_<_};
 ghost use Rattle.geometry.specs.Arith.{floats};
 ghost use Rattle.geometry.specs.Vector.{weights};
 ghost use Rattle.geometry.specs.Formula as formula;
+ghost use lib.Ieee.Scale as scale;
 ghost use Rattle.geometry.specs.Leaf as leaf;
 ghost use Rattle.geometry.specs.Answer.{point2, point3, weightsOf, projectionOf};
 
@@ -39,7 +40,7 @@ pub enum CornerWeights {
 
 // Neither an infinity nor a NaN.
 pub fn finite(x: f32) -> bool
-    ensures { λ r. ⌜ r ≡ leaf.finite x ⌝ }
+    ensures { λ r. ⌜ r ≡ scale.finite x ⌝ }
 {
     if x < f32::from_bits(0x7f80_0000) {
         return f32::from_bits(0xff80_0000) < x;

@@ -1,19 +1,20 @@
 -- The straight way to a pixel's depth gives what the way with its early ends gives.
-use Prim.Native.Nat.{ℕ, _+_, _*_, _-_, _<_}
-use mathlib.Core.Path.{_≡_, refl, _∙_}
+use Prim.Native.Nat.{ℕ, _*_, _-_, _<_}
+use mathlib.Core.Path.{_≡_, refl}
 use mathlib.Core.Bool.{Bool, true, false, not, _&&_, cond}
 use mathlib.Core.Option.{none, some}
-use native.Mathlib.Nat.{mul-pos, sub-self, zero-mul}
+use native.Mathlib.Nat.{mul-pos, sub-self}
 use native.Mathlib.Omega.{arith}
 use borrow.Author.Tests.{le-ltb}
 use lib.IntN.{ℤ, pos}
 use lib.Ieee.{Float, nan, inf, fin, binary32, up, down, neg, add, sub, sum, round, eq, ofBits}
 use lib.Ieee.Fits.{down-pos}
 use lib.Ieee.Scale.{round-same}
+use lib.Ieee.Scale.{finite}
 use Rattle.geometry.specs.Arith.{floats}
 use Rattle.geometry.specs.Vector.{Vec3, Weights, Triangle}
-use Rattle.geometry.specs.Formula.{shares, blend}
-use Rattle.geometry.specs.Leaf.{finite, weighed}
+use Rattle.geometry.specs.Formula.{overTotal, blend}
+use Rattle.geometry.specs.Leaf.{weighed}
 use Rattle.offers.specs.Offer.{lowest}
 use Rattle.rules.specs.Scan.{weighedDepth, kept, dropped}
 use Rattle.lanes.specs.Answer.{orLowest}
@@ -32,7 +33,7 @@ less-itself false m e =
     rw (le-ltb (m * up e * down e) (m * up e * down e) (omega arith), sub-self (m * up e * down e)) (zero-round (down e * down e) (mul-pos (down-pos e) (down-pos e)))
 
 finite-is : (t : Float) → eq (sub binary32 t t) (floats .zero) ≡ finite t
-unfolding sub add neg eq finite ofBits
+unfolding sub add neg eq ofBits
 finite-is nan = refl
 finite-is (inf true) = refl
 finite-is (inf false) = refl
@@ -43,15 +44,15 @@ finite-is (fin s m e) = rw (less-itself s m e)
 module _ (s : Triangle (Vec3 Float)) (a : Weights Float) (t : Float) where
   pub lane-is :
       cond (not (eq (sub binary32 t t) (floats .zero))) lowest
-      (cond (eq t (floats .zero)) lowest (cond (dropped (shares floats a t)) lowest (blend floats (shares floats a t) (s .p0 .z) (s .p1 .z) (s .p2 .z))))
+      (cond (eq t (floats .zero)) lowest (cond (dropped (overTotal floats a t)) lowest (blend floats (overTotal floats a t) (s .p0 .z) (s .p1 .z) (s .p2 .z))))
       ≡ orLowest (weighedDepth s (weighed a t))
   unfolding weighed weighedDepth kept orLowest
-  lane-is = rw (finite-is t) (go (finite t) (eq t (floats .zero)) (dropped (shares floats a t)) refl)
+  lane-is = rw (finite-is t) (go (finite t) (eq t (floats .zero)) (dropped (overTotal floats a t)) refl)
     where
       go :
-          (f e d : Bool) → dropped (shares floats a t) ≡ d
-          → cond (not f) lowest (cond e lowest (cond (dropped (shares floats a t)) lowest (blend floats (shares floats a t) (s .p0 .z) (s .p1 .z) (s .p2 .z))))
-          ≡ orLowest (weighedDepth s (cond (f && not e) (some (shares floats a t)) none))
+          (f e d : Bool) → dropped (overTotal floats a t) ≡ d
+          → cond (not f) lowest (cond e lowest (cond (dropped (overTotal floats a t)) lowest (blend floats (overTotal floats a t) (s .p0 .z) (s .p1 .z) (s .p2 .z))))
+          ≡ orLowest (weighedDepth s (cond (f && not e) (some (overTotal floats a t)) none))
       go false e d q = refl
       go true true d q = refl
       go true false true q = rw q

@@ -1,7 +1,7 @@
 -- Laws of the pairs.
 use Prim.Native.Nat.{ℕ, _-_, _*_, _/_, _<_}
 use mathlib.Core.Path.{_≡_}
-use mathlib.Core.Bool.{true, _&&_, or-true}
+use mathlib.Core.Bool.{true, or-true}
 use mathlib.Core.List.{List}
 use native.Mathlib.Omega.{arith}
 use borrow.Author.Tests.{ne-eqb}

@@ -9,7 +9,6 @@ use native.Mathlib.Nat.{div-add-mod', mod-lt, mul-comm, zero-add}
 use native.Mathlib.Omega.{arith}
 use borrow.Author.Count.{below-none, below-more}
 use lib.Ieee.{Float}
-use lib.ListN.{length}
 use Rattle.lists.specs.Lists.{span, every}
 use Rattle.lists.specs.Laws.Tests.{after-yes}
 use Rattle.lists.specs.Laws.Tables.{length-tabulate, getD-tabulate}

@@ -1,6 +1,6 @@
 -- The faces of a list, drawn one after the other.
 use Prim.Native.Nat.{ℕ, zero, suc, _+_, _*_, _/_, _≤_, _<_}
-use mathlib.Core.Path.{_≡_, refl, sym, ap, ap₂, _∙_}
+use mathlib.Core.Path.{_≡_, refl, sym, ap, _∙_}
 use mathlib.Core.List.{List, [], _∷_, _++_}
 use native.Mathlib.Nat.{not-suc-le-zero}
 use native.Mathlib.Numerals.{add-one}
@@ -9,14 +9,12 @@ use lib.ListN.{length, getD, drop, drop-of-length-le}
 use lib.Seq.{drop-cons}
 use lib.Ieee.{Float}
 use Rattle.geometry.specs.Vector.{Vec3}
-use Rattle.layers.specs.Cell.{Cell}
-use Rattle.offers.specs.Offers.{numbered}
 use Rattle.offers.specs.Offers as any
 use Rattle.layers.specs.Layer.{Layer}
 use Rattle.layers.specs.Steps.{Spans}
 use Rattle.meshes.specs.Mesh.{Face, face, faceAt, facesOf, vertexAt}
 use Rattle.rules.specs.Piece.{pieces}
-use Rattle.rules.specs.Offers.{Scene, scene, facePieces, piecesBring, brings, brought}
+use Rattle.rules.specs.Offers.{Scene, scene, facePieces, brings, brought}
 use Rattle.rules.specs.Draw.{painted, drawn}
 use Rattle.rules.specs.Laws.Paint.{painted-none, painted-same, painted-append}
 use Rattle.raster.specs.Face.{piecesCells}

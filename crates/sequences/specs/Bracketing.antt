@@ -21,7 +21,7 @@ use Rattle.rules.specs.Calls.{drawCode, draws}
 use Rattle.rules.specs.Laws.Paint.{spans-painted}
 use Rattle.sequences.specs.Calls.{Store, layerOf, Call, written, whole, outcomeOf, after}
 use Rattle.sequences.specs.Plan as plan
-use Rattle.sequences.specs.Plan.{flat, Stands, nothing, blank, runs, now, run, firstOf, clearOf, drawOf, joinOf, Keeps, over, clears, joins}
+use Rattle.sequences.specs.Plan.{flat, Stands, nothing, blank, runs, changedAt, run, firstOf, clearOf, drawOf, joinOf, Keeps, over, clears, joins}
 use Rattle.sequences.specs.Whole.{pixelCount, this-layer, other-layers}
 use Rattle.sequences.specs.Case.{Cut, Planned}
 
@@ -87,11 +87,11 @@ module _ (sc : Scene) (rs : List (List Face)) where
 
   -- ---- the plan
 
-  this-now : (g : ℕ → Stands) (i : ℕ) (x : Stands) → now g i x i ≡ x
-  this-now g i x = rw (eq-eqb i i refl)
+  this-changed : (g : ℕ → Stands) (i : ℕ) (x : Stands) → changedAt g i x i ≡ x
+  this-changed g i x = rw (eq-eqb i i refl)
 
-  other-now : (g : ℕ → Stands) (i : ℕ) (x : Stands) (j : ℕ) → (i ≡ j → ⊥) → now g i x j ≡ g j
-  other-now g i x j h = rw (ne-eqb i j h)
+  other-changed : (g : ℕ → Stands) (i : ℕ) (x : Stands) (j : ℕ) → (i ≡ j → ⊥) → changedAt g i x j ≡ g j
+  other-changed g i x j h = rw (ne-eqb i j h)
 
   -- calls that keep to the plan, until layer 0 stands for all runs
   Finishes : (ℕ → Stands) → Store → List Call → Type 0
@@ -106,18 +106,18 @@ module _ (sc : Scene) (rs : List (List Face)) where
       let l' : r < length rs = omega arith in
       let s1 = after s (clearOf sc rs r) in
       let sized1 = clear-sized s sized r l' in
-      let done = continue (now (now g r blank) r (runs r 1)) (after s1 (drawOf sc rs r r)) (draw-sized s1 sized1 r l' r) (this-now (now g r blank) r (runs r 1))
-      (λ j h. other-now (now g r blank) r (runs r 1) j (λ e. omega arith) ∙ other-now g r blank j (λ e. omega arith)) in
-      (done .0, clears r (sized r l') (plan.draws r r l' (this-now g r blank) (done .1)), done .2)
+      let done = continue (changedAt (changedAt g r blank) r (runs r 1)) (after s1 (drawOf sc rs r r)) (draw-sized s1 sized1 r l' r) (this-changed (changedAt g r blank) r (runs r 1))
+      (λ j h. other-changed (changedAt g r blank) r (runs r 1) j (λ e. omega arith) ∙ other-changed g r blank j (λ e. omega arith)) in
+      (done .0, clears r (sized r l') (plan.draws r r l' (this-changed g r blank) (done .1)), done .2)
   planned (pair a b) r g s rest l sized continue =
       planned a r g s (callsFrom sc rs b (r + runCount a) (joinOf sc rs r (r + runCount a) ∷ rest)) (omega arith) sized
       (λ g1 s1 sized1 is1 below1.
       planned b (r + runCount a) g1 s1 (joinOf sc rs r (r + runCount a) ∷ rest) (omega arith) sized1
       (λ g2 s2 sized2 is2 below2.
       let l' : r < length rs = omega (arith, run-count-pos a) in
-      let done = continue (now g2 r (runs r (runCount a + runCount b))) (after s2 (joinOf sc rs r (r + runCount a))) (join-sized s2 sized2 r l' (r + runCount a))
-      (this-now g2 r (runs r (runCount a + runCount b)))
-      (λ j h. other-now g2 r (runs r (runCount a + runCount b)) j (λ e. omega arith) ∙ below2 j (omega arith) ∙ below1 j h) in (
+      let done = continue (changedAt g2 r (runs r (runCount a + runCount b))) (after s2 (joinOf sc rs r (r + runCount a))) (join-sized s2 sized2 r l' (r + runCount a))
+      (this-changed g2 r (runs r (runCount a + runCount b)))
+      (λ j h. other-changed g2 r (runs r (runCount a + runCount b)) j (λ e. omega arith) ∙ below2 j (omega arith) ∙ below1 j h) in (
         done .0,
         joins r (r + runCount a) r (runCount a) (runCount b) (λ e. omega (arith, run-count-pos a)) (below2 r (omega (arith, run-count-pos a)) ∙ is1) is2 (done .1),
         done .2,

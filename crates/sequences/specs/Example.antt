@@ -8,8 +8,8 @@ use Rattle.offers.specs.Offer.{lowest, offered, pick, exceeds}
 use Rattle.offers.specs.Offers as any
 use Rattle.offers.specs.Offers.{numbered}
 use Rattle.layers.specs.Layer.{Layer, layer}
-use Rattle.geometry.specs.Formula.{cross2, areas, total, shares, blend, row, over}
-use Rattle.geometry.specs.Leaf.{finite, weighed, weighedAll, cornerWeights, divided, project}
+use Rattle.geometry.specs.Formula.{cross2, areas, total, overTotal, blend, row, over}
+use Rattle.geometry.specs.Leaf.{weighed, weighedAll, cornerWeights, divided, project}
 use Rattle.meshes.specs.Mesh.{facesOf, vertexAt}
 use Rattle.pixels.specs.Pixel.{centre, centreOf}
 use Rattle.rules.specs.Piece.{scored, whole, behind, anyBehind, cornersPieces, projectedPieces, pieces}
@@ -54,5 +54,5 @@ blank = layer (four empty) (four lowest)
 
 -- the faces `tri` drawn from number 0
 unfoldable pub drawing : Layer → List ℕ → List Float → Float → Float → Outcome Layer
-unfolding firstNo sizes groups numbers every exact offered pick exceeds tabulate numbered any.brought facesOf vertexAt cross2 areas total shares blend row over finite weighed weighedAll cornerWeights divided project scored whole behind anyBehind cornersPieces projectedPieces pieces onScreen screened centre centreOf lower upper least greatest spans between scans dropped kept weighedDepth depthAt candidate facePieces pieceBrings piecesBring brings brought painted drawn drawCode draws add sub mul div neg lt le eq ofBits ofInt
+unfolding firstNo sizes groups numbers every exact offered pick exceeds tabulate numbered any.brought facesOf vertexAt cross2 areas total overTotal blend row over weighed weighedAll cornerWeights divided project scored whole behind anyBehind cornersPieces projectedPieces pieces onScreen screened centre centreOf lower upper least greatest spans between scans dropped kept weighedDepth depthAt candidate facePieces pieceBrings piecesBring brings brought painted drawn drawCode draws add sub mul div neg lt le eq ofBits ofInt
 drawing l tri xyz m11 m15 = draws l tri xyz 2 2 (matrix m11 m15) 0

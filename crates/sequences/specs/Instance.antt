@@ -19,7 +19,7 @@ use Rattle.rules.specs.Offers.{Scene, scene, brought, offers, Holds}
 use Rattle.rules.specs.Calls.{draws}
 use Rattle.sequences.specs.Calls.{Store, Call, clear, draw, join, held, other, whole, after, afterAll}
 use Rattle.sequences.specs.Plan as plan
-use Rattle.sequences.specs.Plan.{flat, joined, Stands, nothing, runs, now, Keeps, over, clears, joins, refused, clearOf, drawOf, joinOf}
+use Rattle.sequences.specs.Plan.{flat, joined, Stands, nothing, runs, changedAt, Keeps, over, clears, joins, refused, clearOf, drawOf, joinOf}
 use Rattle.sequences.specs.Case.{Cut, Case}
 use Rattle.sequences.specs.Example as example
 use Rattle.sequences.specs.Example.{matrix, corners, quarter, half, four, drawing}
@@ -108,7 +108,7 @@ made =
 -- the layers' stands then
 ready : ℕ → Stands
 ready =
-    now (now (now (now (now (now (now (now (now (now (now (λ i. nothing) 3 plan.blank) 3 (runs 3 1)) 0 plan.blank) 0 (runs 0 1)) 4 plan.blank) 4 (runs 4 1)) 3 (runs 3 2)) 1 plan.blank) 1 (runs 1 1)) 2 plan.blank) 2 (runs 2 1)
+    changedAt (changedAt (changedAt (changedAt (changedAt (changedAt (changedAt (changedAt (changedAt (changedAt (changedAt (λ i. nothing) 3 plan.blank) 3 (runs 3 1)) 0 plan.blank) 0 (runs 0 1)) 4 plan.blank) 4 (runs 4 1)) 3 (runs 3 2)) 1 plan.blank) 1 (runs 1 1)) 2 plan.blank) 2 (runs 2 1)
 
 apart : {i j : ℕ} → (i < j) → i ≡ j → ⊥
 apart l e = omega arith
@@ -144,7 +144,7 @@ left-first =
       calls = made ++ joinOf sc rs 0 1 ∷ joinOf sc rs 0 2 ∷ joinOf sc rs 0 3 ∷ [];
       plan =
           record {
-            stands = now (now (now ready 0 (runs 0 2)) 0 (runs 0 3)) 0 (runs 0 5);
+            stands = changedAt (changedAt (changedAt ready 0 (runs 0 2)) 0 (runs 0 3)) 0 (runs 0 5);
             keeps = making _ _ (joins 0 1 0 1 1 (apart (lit< tt)) refl refl (joins 0 2 0 2 1 (apart (lit< tt)) refl refl (joins 0 3 0 3 2 (apart (lit< tt)) refl refl over)));
             last = 0;
             remaining = refl;
@@ -161,7 +161,7 @@ right-first =
       calls = made ++ joinOf sc rs 2 3 ∷ joinOf sc rs 1 2 ∷ joinOf sc rs 0 1 ∷ [];
       plan =
           record {
-            stands = now (now (now ready 2 (runs 2 3)) 1 (runs 1 4)) 0 (runs 0 5);
+            stands = changedAt (changedAt (changedAt ready 2 (runs 2 3)) 1 (runs 1 4)) 0 (runs 0 5);
             keeps = making _ _ (joins 2 3 2 1 2 (apart (lit< tt)) refl refl (joins 1 2 1 1 3 (apart (lit< tt)) refl refl (joins 0 1 0 1 4 (apart (lit< tt)) refl refl over)));
             last = 0;
             remaining = refl;

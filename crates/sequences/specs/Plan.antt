@@ -27,8 +27,8 @@ pub data Stands : Type 0 where
   runs : (from count : ℕ) → Stands
 
 -- the same, but for layer i
-abbrev pub now : (ℕ → Stands) → ℕ → Stands → ℕ → Stands
-now g i x j = cond (eqb i j) x (g j)
+abbrev pub changedAt : (ℕ → Stands) → ℕ → Stands → ℕ → Stands
+changedAt g i x j = cond (eqb i j) x (g j)
 
 module _ (sc : Scene) (rs : List (List Face)) where
   abbrev pub run : ℕ → List Face
@@ -52,18 +52,18 @@ module _ (sc : Scene) (rs : List (List Face)) where
     over : {g : ℕ → Stands} {s : Store} → Keeps g s [] g
     clears : {g : ℕ → Stands} {s : Store} {cs : List Call} {g' : ℕ → Stands} (i : ℕ)
         → Spans (layerOf s i) (sc .width * sc .height)
-        → Keeps (now g i blank) (after s (clearOf i)) cs g'
+        → Keeps (changedAt g i blank) (after s (clearOf i)) cs g'
         → Keeps g s (clearOf i ∷ cs) g'
     draws : {g : ℕ → Stands} {s : Store} {cs : List Call} {g' : ℕ → Stands} (i r : ℕ)
         → r < length rs
         → g i ≡ blank
-        → Keeps (now g i (runs r 1)) (after s (drawOf r i)) cs g'
+        → Keeps (changedAt g i (runs r 1)) (after s (drawOf r i)) cs g'
         → Keeps g s (drawOf r i ∷ cs) g'
     joins : {g : ℕ → Stands} {s : Store} {cs : List Call} {g' : ℕ → Stands} (i j from m n : ℕ)
         → (i ≡ j → ⊥)
         → g i ≡ runs from m
         → g j ≡ runs (from + m) n
-        → Keeps (now g i (runs from (m + n))) (after s (joinOf i j)) cs g'
+        → Keeps (changedAt g i (runs from (m + n))) (after s (joinOf i j)) cs g'
         → Keeps g s (joinOf i j ∷ cs) g'
     refused : {g : ℕ → Stands} {s : Store} {cs : List Call} {g' : ℕ → Stands} (c : Call)
         → (outcomeOf s c .code ≡ 0 → ⊥)

@@ -17,10 +17,10 @@ use Rattle.rules.specs.Offers.{Scene}
 use Rattle.rules.specs.Calls.{drawCode, draws}
 use Rattle.sequences.specs.Calls.{Store, after, afterAll}
 use Rattle.sequences.specs.Plan as plan
-use Rattle.sequences.specs.Plan.{flat, joined, nothing, runs, now, Keeps, over, clears, joins, clearOf, drawOf, joinOf, Accepted}
+use Rattle.sequences.specs.Plan.{flat, joined, nothing, runs, changedAt, over, clears, joins, clearOf, drawOf, joinOf, Accepted}
 use Rattle.sequences.specs.Whole.{pixelCount, cleared, length-flat}
 use Rattle.sequences.specs.Mesh.{answered, threes-of}
-use Rattle.sequences.specs.Case.{Cut, Case, full, final, pictures}
+use Rattle.sequences.specs.Case.{Case, full, final, pictures}
 
 -- ---- lists
 
@@ -98,7 +98,7 @@ module _ (sc : Scene) (tri : List ℕ) (count : ℕ) (left right : Layer) (accep
         calls = clearOf sc rs 0 ∷ drawOf sc rs 0 0 ∷ clearOf sc rs 1 ∷ drawOf sc rs 1 1 ∷ joinOf sc rs 0 1 ∷ [];
         plan =
             record {
-              stands = now (now (now (now (now (λ i. nothing) 0 plan.blank) 0 (runs 0 1)) 1 plan.blank) 1 (runs 1 1)) 0 (runs 0 2);
+              stands = changedAt (changedAt (changedAt (changedAt (changedAt (λ i. nothing) 0 plan.blank) 0 (runs 0 1)) 1 plan.blank) 1 (runs 1 1)) 0 (runs 0 2);
               keeps = clears 0 sl (plan.draws 0 0 (lit< tt) refl (clears 1 sr (plan.draws 1 1 (lit< tt) refl (joins 0 1 0 1 1 (λ e. omega arith) refl refl over))));
               last = 0;
               remaining = refl;

@@ -25,7 +25,7 @@ use Rattle.offers.specs.Laws.Joins.{won}
 use Rattle.offers.specs.Laws.Faces.{won-runs}
 use Rattle.sequences.specs.Calls.{Store, layerOf, Lent, held, other, contents, returned, lentLayer, whole, Call, clear, draw, join, written, outcomeOf, after, afterAll}
 use Rattle.sequences.specs.Plan as plan
-use Rattle.sequences.specs.Plan.{flat, joined, Stands, nothing, blank, runs, now, run, firstOf, clearOf, drawOf, joinOf, Keeps, over, clears, joins, refused, Accepted}
+use Rattle.sequences.specs.Plan.{flat, joined, Stands, nothing, blank, runs, changedAt, run, firstOf, clearOf, drawOf, joinOf, Keeps, over, clears, joins, refused, Accepted}
 
 -- ---- one call
 
@@ -197,7 +197,7 @@ module _ (sc : Scene) (rs : List (List Face)) where
       omega arith
 
   -- one layer changes, the others stay
-  put : (g : ℕ → Stands) (s s' : Store) (i : ℕ) (x : Stands) → Inv g s → ((j : ℕ) → (i ≡ j → ⊥) → layerOf s' j ≡ layerOf s j) → Has x (layerOf s' i) → Inv (now g i x) s'
+  put : (g : ℕ → Stands) (s s' : Store) (i : ℕ) (x : Stands) → Inv g s → ((j : ℕ) → (i ≡ j → ⊥) → layerOf s' j ≡ layerOf s j) → Has x (layerOf s' i) → Inv (changedAt g i x) s'
   unfolding Inv
   put g s s' i x inv stay has j = go (eqb i j) refl
     where

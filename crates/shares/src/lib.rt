@@ -207,6 +207,24 @@ pub fn scatter_pair(
     }
     let q0 = pixels::centre_of(x, y);
     let q1 = pixels::centre_of(x + right, y + down);
-    let d = pairs::dldr(pix2val, dldw_pix2val, num_vdim, pair.p, pair.q, img_w * img_h);
-    scatter_unequal(sums, tri2vtx, vtx2xyz, m, pair.first, pair.second, q0, q1, down, d);
+    let d = pairs::dldr(
+        pix2val,
+        dldw_pix2val,
+        num_vdim,
+        pair.p,
+        pair.q,
+        img_w * img_h,
+    );
+    scatter_unequal(
+        sums,
+        tri2vtx,
+        vtx2xyz,
+        m,
+        pair.first,
+        pair.second,
+        q0,
+        q1,
+        down,
+        d,
+    );
 }

@@ -24,7 +24,7 @@ use Rattle.meshes.specs.Laws.{named-none, named-some}
 use Rattle.rays.specs.Space.{Ray}
 use Rattle.pixel_rays.specs.Rays.{Image, rayOf}
 use Rattle.vertex_values.specs.Pass.{Vertices}
-use Rattle.pixel_bwd.specs.Additions.{incomingAt, toCorners, toXyz, toVal, pixelXyz, pixelVal, Sums}
+use Rattle.pixel_bwd.specs.Additions.{toCorners, toXyz, toVal, pixelXyz, pixelVal, Sums}
 use Rattle.values_bwd.specs.Bwd as values
 use Rattle.values_bwd.specs.Bwd.{xyzAt, valAt, summedOver, interpolatingBwd}
 use Rattle.values_bwd.specs.Laws as values-laws

@@ -1,10 +1,11 @@
 -- The weights of a point in a projected face: `barycentric_world`.
-use mathlib.Core.Bool.{Bool, true, false, _&&_, cond}
+use mathlib.Core.Bool.{_&&_, cond}
 use mathlib.Core.Option.{Option, none, some}
 use lib.Ieee.{Float}
+use lib.Ieee.Scale.{finite}
 use Rattle.geometry.specs.Arith.{floats}
 use Rattle.geometry.specs.Vector.{Vec2, Weights, weights, Projected, Triangle}
-use Rattle.geometry.specs.Leaf.{finite, weighedAll}
+use Rattle.geometry.specs.Leaf.{weighedAll}
 use Rattle.inside.specs.Inside.{weightsIn}
 
 -- `barycentric_world`: each weight over its corner's divisor ..

@@ -5,7 +5,7 @@ use mathlib.Core.List.{List}
 use lib.Ieee.{Float}
 use lib.ListN.{length, length-drop, take, drop}
 use lib.Seq.{take-length}
-use Rattle.questions.specs.Questions.{Outcome, outcome, groups, mostCount}
+use Rattle.questions.specs.Questions.{Outcome, outcome, mostCount}
 use Rattle.questions.specs.Laws.{grouped}
 use Rattle.layers.specs.Layer.{Layer}
 use Rattle.layers.specs.Steps.{Spans}

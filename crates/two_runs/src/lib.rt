@@ -25,9 +25,7 @@ fn draw_run(
         ≡ draws (clearing (layer (now (pix2tri .entry)) (now (pix2depth .entry))) «img_w» «img_h» .left) (now (tri2vtx .entry)) (now (vtx2xyz .entry)) «img_w» «img_h» (now (m .entry)) first .left ⌝ }
 {
     layers::clear(pix2tri, pix2depth, img_w, img_h);
-    drawing::pix2tri_by_rasterization(
-        pix2tri, pix2depth, tri2vtx, vtx2xyz, img_w, img_h, m, first,
-    );
+    drawing::pix2tri_by_rasterization(pix2tri, pix2depth, tri2vtx, vtx2xyz, img_w, img_h, m, first);
 }
 
 // The first `count` faces go to the left layer, the others, numbered on, to the right one. Joined, the left layer is what one draw of the whole mesh leaves

@@ -1,11 +1,10 @@
 -- Both accumulators, pixel by pixel, and what an accepted call knows.
-use Prim.Native.Nat.{ℕ, _+_, _*_}
+use Prim.Native.Nat.{ℕ, _+_}
 use mathlib.Core.Path.{_≡_, refl, sym, _∙_, ap, ap₂}
 use mathlib.Core.Bool.{Bool, true, false, _&&_}
-use mathlib.Core.List.{List, _∷_, _++_, flatMap}
+use mathlib.Core.List.{List, _∷_, _++_}
 use lib.Ieee.{Float}
 use lib.ListN.{length}
-use Rattle.lists.specs.Lists.{span}
 use Rattle.lists.specs.Laws.Tests.{both}
 use Rattle.questions.specs.Questions.{ask, firstNo, exact, opening}
 use Rattle.questions.specs.Laws.{exactly}

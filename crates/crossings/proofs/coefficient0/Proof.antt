@@ -3,12 +3,9 @@ use borrow.Author.Needs.{needs}
 use Rattle.crossings.proofs.coefficient0.Statement.{statement}
 use Rattle.crossings.proofs.coefficient0.Tie as tie
 
-denominator-requires : tie.Need-denominator-requires
-denominator-requires c κs = search needs
-
 returns : tie.Need-returns
 unfolding coefficient0
 returns c = cc
 
 pub coefficient0-spec : {M : Type 1} → statement M
-coefficient0-spec = tie.close (tie.spec denominator-requires returns)
+coefficient0-spec = tie.close (tie.spec (λ c κs. search needs) returns)

@@ -3,12 +3,9 @@ use borrow.Author.Needs.{needs}
 use Rattle.crossings.proofs.coefficient1.Statement.{statement}
 use Rattle.crossings.proofs.coefficient1.Tie as tie
 
-denominator-requires : tie.Need-denominator-requires
-denominator-requires c κs = search needs
-
 returns : tie.Need-returns
 unfolding coefficient1
 returns c = cc
 
 pub coefficient1-spec : {M : Type 1} → statement M
-coefficient1-spec = tie.close (tie.spec denominator-requires returns)
+coefficient1-spec = tie.close (tie.spec (λ c κs. search needs) returns)

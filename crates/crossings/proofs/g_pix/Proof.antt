@@ -3,12 +3,9 @@ use borrow.Author.Needs.{needs}
 use Rattle.crossings.proofs.g_pix.Statement.{statement}
 use Rattle.crossings.proofs.g_pix.Tie as tie
 
-scaled3-requires : tie.Need-scaled3-requires
-scaled3-requires c κs = search needs
-
 returns : tie.Need-returns
 unfolding gPix
 returns c = c .scaled3 .ensures
 
 pub g-pix-spec : {M : Type 1} → statement M
-g-pix-spec = tie.close (tie.spec scaled3-requires returns)
+g-pix-spec = tie.close (tie.spec (λ c κs. search needs) returns)

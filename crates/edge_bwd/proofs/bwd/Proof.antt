@@ -6,12 +6,6 @@ use Rattle.edge_bwd.proofs.Calls.{bwd-refused, bwd-done}
 use Rattle.edge_bwd.proofs.bwd.Statement.{statement}
 use Rattle.edge_bwd.proofs.bwd.Tie as tie
 
-bwd-code-requires : tie.Need-bwd-code-requires
-bwd-code-requires c κs = search needs
-
-same-length : tie.Need-same-length
-same-length c = search needs
-
 returns : tie.Need-returns
 returns c = bwd-refused _ _ _ _ _ _ _ (c .before .bwd-code .ensures) (c .if1 .taken)
 
@@ -25,9 +19,6 @@ scatter-axis-requires-2 c κs =
     let known = bwd-accepted _ _ _ _ _ _ (sym (c .before .before .before .before .before .before .bwd-code .ensures) ∙ c .before .before .before .before .before .if1 .left) in
     (known .image, (known .values, (omega (arith, known .sums), (search needs, known .vedges))))
 
-same-length-2 : tie.Need-same-length-2
-same-length-2 c = search needs
-
 returns-2 : tie.Need-returns-2
 returns-2 c =
     let k = c .before .before .before .before .before .before .before .before in
@@ -36,4 +27,4 @@ returns-2 c =
 pub bwd-spec : {M : Type 1} → statement M
 bwd-spec =
     tie.close
-    (tie.spec bwd-code-requires same-length returns scatter-axis-requires scatter-axis-requires-2 same-length-2 returns-2)
+    (tie.spec (λ c κs. search needs) (λ c. search needs) returns scatter-axis-requires scatter-axis-requires-2 (λ c. search needs) returns-2)

@@ -9,9 +9,6 @@ use borrow.Author.Needs.{needs}
 use Rattle.edge_bwd.proofs.bwd_code.Statement.{statement}
 use Rattle.edge_bwd.proofs.bwd_code.Tie as tie
 
-opening-code-requires : tie.Need-opening-code-requires
-opening-code-requires c κs = search needs
-
 returns : tie.Need-returns
 unfolding bwdCode
 returns c = let e = c .before .opening-code .ensures in e ∙ first-refused _ _ (λ z. c .if1 .taken (e ∙ z))
@@ -52,6 +49,4 @@ returns-4 c =
     (passes 4 _ (after-yes (said-yes (second .before .pixels-ok .ensures) (second .if2 .left)) (exact-yes _ _ (third .if3 .left))) (c .closing-code .ensures))
 
 pub bwd-code-spec : {M : Type 1} → statement M
-bwd-code-spec =
-    tie.close
-    (tie.spec opening-code-requires returns pixels-ok-requires returns-2 returns-3 closing-code-requires returns-4)
+bwd-code-spec = tie.close (tie.spec (λ c κs. search needs) returns pixels-ok-requires returns-2 returns-3 closing-code-requires returns-4)

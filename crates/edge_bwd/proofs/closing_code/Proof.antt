@@ -6,9 +6,6 @@ use borrow.Author.Needs.{needs}
 use Rattle.edge_bwd.proofs.closing_code.Statement.{statement}
 use Rattle.edge_bwd.proofs.closing_code.Tie as tie
 
-naming-code-requires : tie.Need-naming-code-requires
-naming-code-requires c κs = search needs
-
 returns : tie.Need-returns
 returns c = let e = c .before .naming-code .ensures in e ∙ first-refused _ _ (λ z. c .if1 .taken (e ∙ z))
 
@@ -23,4 +20,4 @@ returns-2 c =
     let named = c .before in past-naming _ _ _ _ (sym (named .before .naming-code .ensures) ∙ named .if1 .left) (c .pairs-code .ensures)
 
 pub closing-code-spec : {M : Type 1} → statement M
-closing-code-spec = tie.close (tie.spec naming-code-requires returns pairs-code-requires returns-2)
+closing-code-spec = tie.close (tie.spec (λ c κs. search needs) returns pairs-code-requires returns-2)

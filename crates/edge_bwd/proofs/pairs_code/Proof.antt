@@ -1,6 +1,5 @@
 use Rattle.lists.specs.Laws.Tests.{said-no, said-yes}
 use Rattle.questions.specs.Laws.{refuses, passes, ends}
-use borrow.Author.Needs.{needs}
 use Rattle.edge_bwd.proofs.pairs_code.Statement.{statement}
 use Rattle.edge_bwd.proofs.pairs_code.Tie as tie
 

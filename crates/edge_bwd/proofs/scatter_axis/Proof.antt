@@ -70,9 +70,6 @@ loop-again c =
     ∙ ap (λ (e : Edge). summed (at .loop .sums) (pairAdditions a seen v e)) (sym (down-edge (s .args .right) (s .args .down) (s .args .img-w) (s .args .img-h) (at .loop .inv .walked) l)))
     (search needs) (c .next .ensures)
 
-same-length : tie.Need-same-length Inv-loop μ-loop
-same-length c = search needs
-
 returns : tie.Need-returns Inv-loop μ-loop
 unfolding axisAdditions
 returns c = summing-all _ _ _ _ (c .before .loop .inv) (c .loop-test .left)
@@ -80,17 +77,5 @@ returns c = summing-all _ _ _ _ (c .before .loop .inv) (c .loop-test .left)
 pub scatter-axis-spec : {M : Type 1} → statement M
 scatter-axis-spec =
     tie.close
-    (tie.spec
-    Inv-loop
-    μ-loop
-    sub-rows
-    sub-n
-    mul-n
-    loop-holds
-    scatter-pair-requires
-    next-requires
-    add-i
-    loop-less
-    loop-again
-    same-length
+    (tie.spec Inv-loop μ-loop sub-rows sub-n mul-n loop-holds scatter-pair-requires next-requires add-i loop-less loop-again (λ c. search needs)
     returns)

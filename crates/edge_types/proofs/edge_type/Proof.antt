@@ -6,16 +6,10 @@ use borrow.Author.Needs.{needs}
 use Rattle.edge_types.proofs.edge_type.Statement.{statement}
 use Rattle.edge_types.proofs.edge_type.Tie as tie
 
-pair-at-requires : tie.Need-pair-at-requires
-pair-at-requires c κs = search needs
-
 returns : tie.Need-returns
 unfolding typeOf
 returns c =
     let k = c .before .before .pair-at .ensures in rw (← (k .first-entry), ← (k .second-entry), eq-eqb _ _ (c .if1 .taken))
-
-centre-of-requires : tie.Need-centre-of-requires
-centre-of-requires c κs = search needs
 
 contains-requires : tie.Need-contains-requires
 contains-requires c κs =
@@ -34,15 +28,6 @@ returns-2 c =
       ← (c .before .before .centre-of .ensures),
       so (c .before .contains .ensures) (c .if2 .taken),
     )
-
-add-centre-of : tie.Need-add-centre-of
-add-centre-of c = search needs
-
-add-centre-of-2 : tie.Need-add-centre-of-2
-add-centre-of-2 c = search needs
-
-centre-of-requires-2 : tie.Need-centre-of-requires-2
-centre-of-requires-2 c κs = search needs
 
 contains-requires-2 : tie.Need-contains-requires-2
 contains-requires-2 c κs =
@@ -84,15 +69,5 @@ returns-4 c =
 pub edge-type-spec : {M : Type 1} → statement M
 edge-type-spec =
     tie.close
-    (tie.spec
-    pair-at-requires
-    returns
-    centre-of-requires
-    contains-requires
-    returns-2
-    add-centre-of
-    add-centre-of-2
-    centre-of-requires-2
-    contains-requires-2
-    returns-3
-    returns-4)
+    (tie.spec (λ c κs. search needs) returns (λ c κs. search needs) contains-requires returns-2 (λ c. search needs) (λ c. search needs)
+    (λ c κs. search needs) contains-requires-2 returns-3 returns-4)

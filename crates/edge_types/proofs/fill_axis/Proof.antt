@@ -81,9 +81,6 @@ add-i c =
     let s = in-loop .before .before .before .before .before .before .before .before .before in
     record { fits = omega (arith, in-loop .loop-test .taken, edges-few (s .pre .0 .size .w-most) (s .pre .0 .size .h-most) (s .args .right) (s .args .down)) }
 
-loop-less : tie.Need-loop-less Inv-loop μ-loop
-loop-less c = omega arith
-
 loop-again : tie.Need-loop-again Inv-loop μ-loop
 loop-again c =
     let typed = c .before .before in
@@ -113,24 +110,5 @@ returns c =
 pub fill-axis-spec : {M : Type 1} → statement M
 fill-axis-spec =
     tie.close
-    (tie.spec
-    Inv-loop
-    μ-loop
-    sub-columns
-    sub-n
-    mul-n
-    mul-count
-    loop-holds
-    pair-at-requires
-    edge-type-requires
-    slice-write-types
-    dldr-requires
-    mul-dldrs
-    slice-write-dldrs
-    next-requires
-    add-i
-    loop-less
-    loop-again
-    same-length
-    same-length-2
-    returns)
+    (tie.spec Inv-loop μ-loop sub-columns sub-n mul-n mul-count loop-holds pair-at-requires edge-type-requires slice-write-types dldr-requires
+    mul-dldrs slice-write-dldrs next-requires add-i (λ c. omega arith) loop-again same-length same-length-2 returns)

@@ -4,9 +4,6 @@ use borrow.Author.Needs.{needs}
 use Rattle.edges.proofs.axis_ok.Statement.{statement}
 use Rattle.edges.proofs.axis_ok.Tie as tie
 
-edge-count-requires : tie.Need-edge-count-requires
-edge-count-requires c κs = search needs
-
 returns : tie.Need-returns
 unfolding exact
 returns c = rw (← (c .before .edge-count .ensures), ne-eqb _ _ (c .if1 .taken))
@@ -16,4 +13,4 @@ unfolding exact
 returns-2 c = rw (← (c .before .edge-count .ensures), eq-eqb _ _ (c .if1 .left))
 
 pub axis-ok-spec : {M : Type 1} → statement M
-axis-ok-spec = tie.close (tie.spec edge-count-requires returns returns-2)
+axis-ok-spec = tie.close (tie.spec (λ c κs. search needs) returns returns-2)

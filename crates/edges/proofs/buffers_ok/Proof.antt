@@ -4,17 +4,11 @@ use borrow.Author.Needs.{needs}
 use Rattle.edges.proofs.buffers_ok.Statement.{statement}
 use Rattle.edges.proofs.buffers_ok.Tie as tie
 
-axis-ok-requires : tie.Need-axis-ok-requires
-axis-ok-requires c κs = search needs
-
 returns : tie.Need-returns
 returns c = sym (after-no _ (said-no (c .before .axis-ok .ensures) (c .if1 .taken)))
-
-axis-ok-requires-2 : tie.Need-axis-ok-requires-2
-axis-ok-requires-2 c κs = search needs
 
 returns-2 : tie.Need-returns-2
 returns-2 c = sym (after-yes (said-yes (c .before .before .axis-ok .ensures) (c .before .if1 .left)) (sym (c .axis-ok2 .ensures)))
 
 pub buffers-ok-spec : {M : Type 1} → statement M
-buffers-ok-spec = tie.close (tie.spec axis-ok-requires returns axis-ok-requires-2 returns-2)
+buffers-ok-spec = tie.close (tie.spec (λ c κs. search needs) returns (λ c κs. search needs) returns-2)

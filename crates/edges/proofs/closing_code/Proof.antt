@@ -8,9 +8,6 @@ use borrow.Author.Needs.{needs}
 use Rattle.edges.proofs.closing_code.Statement.{statement}
 use Rattle.edges.proofs.closing_code.Tie as tie
 
-naming-code-requires : tie.Need-naming-code-requires
-naming-code-requires c κs = search needs
-
 returns : tie.Need-returns
 returns c = let e = c .before .naming-code .ensures in e ∙ first-refused _ _ (λ z. c .if1 .taken (e ∙ z))
 
@@ -31,5 +28,4 @@ returns-3 c =
     past-naming _ _ _ _ (sym (named .before .naming-code .ensures) ∙ named .if1 .left) (passes 8 _ (said-yes (c .before .both-answered .ensures) (c .if2 .left)) ends)
 
 pub closing-code-spec : {M : Type 1} → statement M
-closing-code-spec =
-    tie.close (tie.spec naming-code-requires returns both-answered-requires returns-2 returns-3)
+closing-code-spec = tie.close (tie.spec (λ c κs. search needs) returns both-answered-requires returns-2 returns-3)

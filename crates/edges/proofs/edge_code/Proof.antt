@@ -9,9 +9,6 @@ use borrow.Author.Needs.{needs}
 use Rattle.edges.proofs.edge_code.Statement.{statement}
 use Rattle.edges.proofs.edge_code.Tie as tie
 
-opening-code-requires : tie.Need-opening-code-requires
-opening-code-requires c κs = search needs
-
 returns : tie.Need-returns
 unfolding edgeCode
 returns c = let e = c .before .opening-code .ensures in e ∙ first-refused _ _ (λ z. c .if1 .taken (e ∙ z))
@@ -58,12 +55,4 @@ returns-4 c =
 pub edge-code-spec : {M : Type 1} → statement M
 edge-code-spec =
     tie.close
-    (tie.spec
-    opening-code-requires
-    returns
-    pixels-ok-requires
-    returns-2
-    buffers-ok-requires
-    returns-3
-    closing-code-requires
-    returns-4)
+    (tie.spec (λ c κs. search needs) returns pixels-ok-requires returns-2 buffers-ok-requires returns-3 closing-code-requires returns-4)

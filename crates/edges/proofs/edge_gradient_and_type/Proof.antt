@@ -6,21 +6,6 @@ use borrow.Author.Needs.{needs}
 use Rattle.edges.proofs.edge_gradient_and_type.Statement.{statement}
 use Rattle.edges.proofs.edge_gradient_and_type.Tie as tie
 
-edge-code-requires : tie.Need-edge-code-requires
-edge-code-requires c κs = search needs
-
-same-length : tie.Need-same-length
-same-length c = search needs
-
-same-length-2 : tie.Need-same-length-2
-same-length-2 c = search needs
-
-same-length-3 : tie.Need-same-length-3
-same-length-3 c = search needs
-
-same-length-4 : tie.Need-same-length-4
-same-length-4 c = search needs
-
 returns : tie.Need-returns
 returns c = edge-refused _ _ _ _ _ _ _ (c .before .edge-code .ensures) (c .if1 .taken)
 
@@ -36,18 +21,6 @@ fill-axis-requires-2 c κs =
     let known = edge-accepted _ _ _ _ _ _ (sym (passed .before .edge-code .ensures) ∙ passed .if1 .left) in
     (known .image, (known .values, (search needs, known .vedges)))
 
-same-length-5 : tie.Need-same-length-5
-same-length-5 c = search needs
-
-same-length-6 : tie.Need-same-length-6
-same-length-6 c = search needs
-
-same-length-7 : tie.Need-same-length-7
-same-length-7 c = search needs
-
-same-length-8 : tie.Need-same-length-8
-same-length-8 c = search needs
-
 returns-2 : tie.Need-returns-2
 returns-2 c =
     let second = c .before .before .before .before in
@@ -58,17 +31,5 @@ returns-2 c =
 pub edge-gradient-and-type-spec : {M : Type 1} → statement M
 edge-gradient-and-type-spec =
     tie.close
-    (tie.spec
-    edge-code-requires
-    same-length
-    same-length-2
-    same-length-3
-    same-length-4
-    returns
-    fill-axis-requires
-    fill-axis-requires-2
-    same-length-5
-    same-length-6
-    same-length-7
-    same-length-8
-    returns-2)
+    (tie.spec (λ c κs. search needs) (λ c. search needs) (λ c. search needs) (λ c. search needs) (λ c. search needs) returns fill-axis-requires
+    fill-axis-requires-2 (λ c. search needs) (λ c. search needs) (λ c. search needs) (λ c. search needs) returns-2)

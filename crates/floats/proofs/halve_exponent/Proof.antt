@@ -51,15 +51,6 @@ module _ (c : tie.Start) where
   dropped-is : Unsigned (ofZ w32 (back H +ℤ toZ w32 (c .args .l + 32 - c .args .p))) (h + (c .args .l + 32 - c .args .p) - 4096)
   dropped-is = unsigned (at-dropped .held) (h + (c .args .l + 32 - c .args .p) - 4096) (omega arith)
 
-cast-e : tie.Need-cast-e
-cast-e c = search needs
-
-add-e : tie.Need-add-e
-add-e c = search needs
-
-cast-e-2 : tie.Need-cast-e-2
-cast-e-2 c = search needs
-
 sub-e : tie.Need-sub-e
 sub-e c = at-e c .fit
 
@@ -71,15 +62,6 @@ add-odd c = at-twice c .fit
 
 sub-odd : tie.Need-sub-odd
 sub-odd c = at-odd c .fit
-
-add-dropped : tie.Need-add-dropped
-add-dropped c = search needs
-
-sub-dropped : tie.Need-sub-dropped
-sub-dropped c = search needs
-
-cast-dropped : tie.Need-cast-dropped
-cast-dropped c = search needs
 
 add-dropped-2 : tie.Need-add-dropped-2
 add-dropped-2 c = at-dropped c .fit
@@ -96,18 +78,5 @@ returns c = record { bit = omega (arith, odd-is c .is); half = omega (arith, odd
 pub halve-exponent-spec : {M : Type 1} → statement M
 halve-exponent-spec =
     tie.close
-    (tie.spec
-    cast-e
-    add-e
-    cast-e-2
-    sub-e
-    add-half
-    add-odd
-    sub-odd
-    add-dropped
-    sub-dropped
-    cast-dropped
-    add-dropped-2
-    cast-t10
-    cast-t12
-    returns)
+    (tie.spec (λ c. search needs) (λ c. search needs) (λ c. search needs) sub-e add-half add-odd sub-odd (λ c. search needs) (λ c. search needs)
+    (λ c. search needs) add-dropped-2 cast-t10 cast-t12 returns)

@@ -11,18 +11,6 @@ widened : (a b x y : Float) → x ≡ a → y ≡ b → narrow (root binary64 (a
 unfolding hypotOf
 widened a b x y p q = ap₂ (λ (u v : Float). narrow (root binary64 (add binary64 (mul binary64 u u) (mul binary64 v v)))) p q
 
-f32-to-f64-with-nan-requires : tie.Need-f32-to-f64-with-nan-requires
-f32-to-f64-with-nan-requires c κs = search needs
-
-f32-to-f64-with-nan-requires-2 : tie.Need-f32-to-f64-with-nan-requires-2
-f32-to-f64-with-nan-requires-2 c κs = search needs
-
-sqrt-f64-requires : tie.Need-sqrt-f64-requires
-sqrt-f64-requires c κs = search needs
-
-narrow-f64-to-f32-requires : tie.Need-narrow-f64-to-f32-requires
-narrow-f64-to-f32-requires c κs = search needs
-
 returns : tie.Need-returns
 returns c =
     let start = c .before .before .before .before in
@@ -33,11 +21,4 @@ returns c =
     ∙ widened (start .args .a) (start .args .b) (x .result) (y .result) (x .ensures) (y .ensures)
 
 pub hypot-f32-spec : {M : Type 1} → statement M
-hypot-f32-spec =
-    tie.close
-    (tie.spec
-    f32-to-f64-with-nan-requires
-    f32-to-f64-with-nan-requires-2
-    sqrt-f64-requires
-    narrow-f64-to-f32-requires
-    returns)
+hypot-f32-spec = tie.close (tie.spec (λ c κs. search needs) (λ c κs. search needs) (λ c κs. search needs) (λ c κs. search needs) returns)

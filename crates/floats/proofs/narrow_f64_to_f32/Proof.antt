@@ -31,9 +31,6 @@ returns c = zero-over-zero binary32 ∙ narrow-nan ∙ ap narrow (sym (differs-f
 float-to-bits-b : tie.Need-float-to-bits-b
 float-to-bits-b c = number (c .before .args .x) (c .if1 .left)
 
-pack-f32-requires : tie.Need-pack-f32-requires
-pack-f32-requires c κs = search needs
-
 returns-2 : tie.Need-returns-2
 returns-2 c =
     let start = c .before .before .before in
@@ -41,18 +38,6 @@ returns-2 c =
     c .pack-f32 .ensures
     ∙ infinite (leb (2 ^ 63) (toBits binary64 x))
     ∙ ap narrow (sym (top-value x (held start) (number x (c .before .before .if1 .left)) (c .before .if2 .taken)))
-
-narrow-units-requires : tie.Need-narrow-units-requires
-narrow-units-requires c κs = search needs
-
-add-narrow-units : tie.Need-add-narrow-units
-add-narrow-units c = search needs
-
-sub-narrow-units : tie.Need-sub-narrow-units
-sub-narrow-units c = search needs
-
-narrow-units-requires-2 : tie.Need-narrow-units-requires-2
-narrow-units-requires-2 c κs = search needs
 
 returns-3 : tie.Need-returns-3
 returns-3 c =
@@ -70,14 +55,5 @@ returns-4 c =
 pub narrow-f64-to-f32-spec : {M : Type 1} → statement M
 narrow-f64-to-f32-spec =
     tie.close
-    (tie.spec
-    returns
-    float-to-bits-b
-    pack-f32-requires
-    returns-2
-    narrow-units-requires
-    add-narrow-units
-    sub-narrow-units
-    narrow-units-requires-2
-    returns-3
-    returns-4)
+    (tie.spec returns float-to-bits-b (λ c κs. search needs) returns-2 (λ c κs. search needs) (λ c. search needs) (λ c. search needs)
+    (λ c κs. search needs) returns-3 returns-4)

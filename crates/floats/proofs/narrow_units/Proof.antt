@@ -16,9 +16,6 @@ add-shift-nearest c = ⊎-elim (λ w. omega arith) (λ w. omega arith) (c .befor
 sub-shift-nearest : tie.Need-sub-shift-nearest
 sub-shift-nearest c = ⊎-elim (λ w. omega arith) (λ w. omega arith) (c .before .if1 .came)
 
-shift-nearest-requires : tie.Need-shift-nearest-requires
-shift-nearest-requires c κs = search needs
-
 pack-f32-requires : tie.Need-pack-f32-requires
 pack-f32-requires c κs =
     let start = c .before .before .before in
@@ -40,6 +37,4 @@ returns c =
     ∙ sym (narrow-units q k (925 + d - k) d (start .pre .0) e (omega arith) (start .args .minus))
 
 pub narrow-units-spec : {M : Type 1} → statement M
-narrow-units-spec =
-    tie.close
-    (tie.spec add-shift-nearest sub-shift-nearest shift-nearest-requires pack-f32-requires returns)
+narrow-units-spec = tie.close (tie.spec add-shift-nearest sub-shift-nearest (λ c κs. search needs) pack-f32-requires returns)

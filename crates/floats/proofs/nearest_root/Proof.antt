@@ -14,26 +14,11 @@ cast-halve-exponent c = record { fits = omega (arith, shift-small _ _ _ _ (c .pr
 halve-exponent-requires : tie.Need-halve-exponent-requires
 halve-exponent-requires c κs = (c .pre .exponent, shift-small _ _ _ _ (c .pre), c .pre .digits, c .pre .least, c .pre .apart)
 
-cast-root-digits : tie.Need-cast-root-digits
-cast-root-digits c = search needs
-
 shl-root-digits : tie.Need-shl-root-digits
 shl-root-digits c = shift-small _ _ _ _ (c .before .pre)
 
-shr-root-digits : tie.Need-shr-root-digits
-shr-root-digits c = search needs
-
-add-root-digits : tie.Need-add-root-digits
-add-root-digits c = search needs
-
-root-digits-requires : tie.Need-root-digits-requires
-root-digits-requires c κs = search needs
-
 sub-result : tie.Need-sub-result
 sub-result c = hidden-digit _ _ _ _ (c .before .before .before .pre)
-
-shl-result : tie.Need-shl-result
-shl-result c = search needs
 
 -- what is returned, with the root's digits as root_digits promises them
 answer : (c : tie.After-struct-known2) → let a = c .before .before .before .before .args in let h = c .before .before .before .halve-exponent .result in
@@ -55,16 +40,5 @@ returns c f ep el h = answer c ∙ root-of-units _ _ _ _ _ _ (c .before .before 
 pub nearest-root-spec : {M : Type 1} → statement M
 nearest-root-spec =
     tie.close
-    (tie.spec
-    cast-halve-exponent
-    halve-exponent-requires
-    cast-root-digits
-    shl-root-digits
-    shr-root-digits
-    add-root-digits
-    root-digits-requires
-    sub-result
-    shl-result
-    add-result
-    add-result-2
-    returns)
+    (tie.spec cast-halve-exponent halve-exponent-requires (λ c. search needs) shl-root-digits (λ c. search needs) (λ c. search needs)
+    (λ c κs. search needs) sub-result (λ c. search needs) add-result add-result-2 returns)

@@ -17,12 +17,6 @@ bits c =
     (⊎-elim (λ w. inl (w .0 .taken, w .1)) (λ w. inr (w .0 .left, w .1)) (c .before .before .if2 .came))
     (⊎-elim (λ w. inl (w .0 .taken, w .1)) (λ w. inr (w .0 .left, w .1)) (c .before .before .before .if1 .came))
 
-mul-code : tie.Need-mul-code
-mul-code c = search needs
-
-add-code : tie.Need-add-code
-add-code c = search needs
-
 add-result : tie.Need-add-result
 add-result c = record { fits = lt-of-lt-of-le (bits c .below) (lit≤ tt) }
 
@@ -36,4 +30,4 @@ returns : tie.Need-returns
 returns c = bits c .is
 
 pub pack-f32-spec : {M : Type 1} → statement M
-pack-f32-spec = tie.close (tie.spec mul-code add-code add-result cast-result float-from-bits-result returns)
+pack-f32-spec = tie.close (tie.spec (λ c. search needs) (λ c. search needs) add-result cast-result float-from-bits-result returns)

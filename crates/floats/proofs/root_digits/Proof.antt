@@ -42,9 +42,6 @@ add-r c = record { fits = omega (arith, small (c .before)) }
 add-i : tie.Need-add-i Inv-loop μ-loop
 add-i c = record { fits = omega arith }
 
-loop-less : tie.Need-loop-less Inv-loop μ-loop
-loop-less c = omega arith
-
 loop-again : tie.Need-loop-again Inv-loop μ-loop
 loop-again c = (
   omega arith,
@@ -66,17 +63,4 @@ returns c =
 pub root-digits-spec : {M : Type 1} → statement M
 root-digits-spec =
     tie.close
-    (tie.spec
-    Inv-loop
-    μ-loop
-    loop-holds
-    mul-rest
-    add-rest
-    mul-next
-    add-next
-    mul-r
-    add-r
-    add-i
-    loop-less
-    loop-again
-    returns)
+    (tie.spec Inv-loop μ-loop loop-holds mul-rest add-rest mul-next add-next mul-r add-r add-i (λ c. omega arith) loop-again returns)

@@ -11,12 +11,6 @@ use Rattle.floats.proofs.Fields.{low-rootable, high-rootable, shifted, 
 use Rattle.floats.proofs.root_pattern.Statement.{statement}
 use Rattle.floats.proofs.root_pattern.Tie as tie
 
-sub-field : tie.Need-sub-field
-sub-field c = search needs
-
-shr-field : tie.Need-shr-field
-shr-field c = search needs
-
 nearest-root-requires : tie.Need-nearest-root-requires
 nearest-root-requires c κs = low-rootable _ _ _ (c .before .pre) (c .if1 .taken)
 
@@ -29,15 +23,6 @@ returns c f ep el h =
 -- the digits that are shifted out are none
 back : (c : tie.Else1) → let b = c .before .args .b in let j = 2 ^ (c .before .args .p - 1) in (b / j - 1) * j % 2 ^ 64 ≡ (b / j - 1) * j
 back c = shifted _ _ (pow-pos (c .before .args .p - 1)) (c .if1 .left) (search needs)
-
-sub-k : tie.Need-sub-k
-sub-k c = search needs
-
-sub-nearest-root : tie.Need-sub-nearest-root
-sub-nearest-root c = search needs
-
-shl-nearest-root : tie.Need-shl-nearest-root
-shl-nearest-root c = search needs
 
 sub-nearest-root-2 : tie.Need-sub-nearest-root-2
 sub-nearest-root-2 c = omega (arith, back c, first _ _ (pow-pos (c .before .args .p - 1)) (c .if1 .left))
@@ -61,14 +46,5 @@ returns-2 c f ep el h =
 pub root-pattern-spec : {M : Type 1} → statement M
 root-pattern-spec =
     tie.close
-    (tie.spec
-    sub-field
-    shr-field
-    nearest-root-requires
-    returns
-    sub-k
-    sub-nearest-root
-    shl-nearest-root
-    sub-nearest-root-2
-    nearest-root-requires-2
-    returns-2)
+    (tie.spec (λ c. search needs) (λ c. search needs) nearest-root-requires returns (λ c. search needs) (λ c. search needs) (λ c. search needs)
+    sub-nearest-root-2 nearest-root-requires-2 returns-2)

@@ -18,20 +18,8 @@ returns c =
     let far : 63 ≤ by = omega arith in
     sym (closest-none q (2 ^ by) (pow-pos by) (le-trans half (pow-mono far)))
 
-shl-unit : tie.Need-shl-unit
-shl-unit c = search needs
-
-shr-kept : tie.Need-shr-kept
-shr-kept c = search needs
-
-shl-rest : tie.Need-shl-rest
-shl-rest c = search needs
-
 sub-rest : tie.Need-sub-rest
 sub-rest c = back-le (c .before .args .q) (c .before .args .by) (c .before .pre) (omega arith)
-
-mul-rest : tie.Need-mul-rest
-mul-rest c = search needs
 
 returns-2 : tie.Need-returns-2
 returns-2 c =
@@ -60,15 +48,5 @@ returns-4 c =
 pub shift-nearest-spec : {M : Type 1} → statement M
 shift-nearest-spec =
     tie.close
-    (tie.spec
-    returns
-    shl-unit
-    shr-kept
-    shl-rest
-    sub-rest
-    mul-rest
-    returns-2
-    add-result
-    returns-3
-    add-result-2
-    returns-4)
+    (tie.spec returns (λ c. search needs) (λ c. search needs) (λ c. search needs) sub-rest (λ c. search needs) returns-2 add-result returns-3
+    add-result-2 returns-4)

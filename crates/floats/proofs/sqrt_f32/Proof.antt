@@ -36,12 +36,6 @@ returns-3 c = met (c .before .before .before) _ (zero-over-zero binary32 ∙ roo
 returns-4 : tie.Need-returns-4
 returns-4 c = met (c .before .before .before .before) _ (root-infinite binary32 _ (held (c .before .before .before .before)) (c .if4 .taken))
 
-cast-root-pattern : tie.Need-cast-root-pattern
-cast-root-pattern c = search needs
-
-root-pattern-requires : tie.Need-root-pattern-requires
-root-pattern-requires c κs = search needs
-
 bits : (c : tie.After-root-pattern) → Answer binary32 (c .before .before .before .before .before .args .x) (c .root-pattern .result)
 bits c = answer binary32 _ (held (c .before .before .before .before .before)) (omega arith) (omega arith) _ (c .root-pattern .ensures binary32 refl refl (omega arith))
 
@@ -57,14 +51,5 @@ returns-5 c = met (c .before .before .before .before .before) _ (bits c .is)
 pub sqrt-f32-spec : {M : Type 1} → statement M
 sqrt-f32-spec =
     tie.close
-    (tie.spec
-    returns
-    float-to-bits-b
-    returns-2
-    returns-3
-    returns-4
-    cast-root-pattern
-    root-pattern-requires
-    cast-result
-    float-from-bits-result
+    (tie.spec returns float-to-bits-b returns-2 returns-3 returns-4 (λ c. search needs) (λ c κs. search needs) cast-result float-from-bits-result
     returns-5)

@@ -36,9 +36,6 @@ returns-3 c = met (c .before .before .before) _ (zero-over-zero binary64 ∙ roo
 returns-4 : tie.Need-returns-4
 returns-4 c = met (c .before .before .before .before) _ (root-infinite binary64 _ (held (c .before .before .before .before)) (c .if4 .taken))
 
-root-pattern-requires : tie.Need-root-pattern-requires
-root-pattern-requires c κs = search needs
-
 bits : (c : tie.After-root-pattern) → Answer binary64 (c .before .before .before .before .before .args .x) (c .root-pattern .result)
 bits c = answer binary64 _ (held (c .before .before .before .before .before)) (omega arith) (omega arith) _ (c .root-pattern .ensures binary64 refl refl (omega arith))
 
@@ -49,14 +46,4 @@ returns-5 : tie.Need-returns-5
 returns-5 c = met (c .before .before .before .before .before) _ (bits c .is)
 
 pub sqrt-f64-spec : {M : Type 1} → statement M
-sqrt-f64-spec =
-    tie.close
-    (tie.spec
-    returns
-    float-to-bits-b
-    returns-2
-    returns-3
-    returns-4
-    root-pattern-requires
-    float-from-bits-result
-    returns-5)
+sqrt-f64-spec = tie.close (tie.spec returns float-to-bits-b returns-2 returns-3 returns-4 (λ c κs. search needs) float-from-bits-result returns-5)

@@ -5,18 +5,6 @@ use Rattle.geometry.specs.Leaf.{project, divided}
 use Rattle.geometry.proofs.project.Statement.{statement}
 use Rattle.geometry.proofs.project.Tie as tie
 
-row-requires : tie.Need-row-requires
-row-requires c κs = search needs
-
-row-requires-2 : tie.Need-row-requires-2
-row-requires-2 c κs = search needs
-
-row-requires-3 : tie.Need-row-requires-3
-row-requires-3 c κs = search needs
-
-row-requires-4 : tie.Need-row-requires-4
-row-requires-4 c κs = search needs
-
 returns : tie.Need-returns
 unfolding project divided
 returns c = rw (← (c .before .row4 .ensures), c .if1 .taken)
@@ -33,6 +21,4 @@ returns-2 c =
     )
 
 pub project-spec : {M : Type 1} → statement M
-project-spec =
-    tie.close
-    (tie.spec row-requires row-requires-2 row-requires-3 row-requires-4 returns returns-2)
+project-spec = tie.close (tie.spec (λ c κs. search needs) (λ c κs. search needs) (λ c κs. search needs) (λ c κs. search needs) returns returns-2)

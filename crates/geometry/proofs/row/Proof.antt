@@ -3,8 +3,6 @@ use Rattle.geometry.specs.Formula.{row}
 use borrow.Author.Needs.{needs}
 use Rattle.geometry.proofs.row.Statement.{statement}
 use Rattle.geometry.proofs.row.Tie as tie
-use Rattle.geometry.proofs.row.Reads as reads
-use Rattle.geometry.proofs.row.Lts as lts
 
 -- src/lib.rt:90:5
 mul-result : tie.Need-mul-result

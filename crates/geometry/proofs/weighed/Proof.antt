@@ -1,13 +1,10 @@
 -- `geometry::weighed`: a case for each of the two tests.
 use borrow.Author.Needs.{needs}
-use Rattle.geometry.specs.Formula.{shares}
+use Rattle.geometry.specs.Formula.{overTotal}
 use Rattle.geometry.specs.Leaf.{weighed}
 use Rattle.lists.specs.Laws.Tests.{said-no, said-yes}
 use Rattle.geometry.proofs.weighed.Statement.{statement}
 use Rattle.geometry.proofs.weighed.Tie as tie
-
-finite-requires : tie.Need-finite-requires
-finite-requires c κs = search needs
 
 returns : tie.Need-returns
 unfolding weighed
@@ -18,8 +15,8 @@ unfolding weighed
 returns-2 c = rw (said-yes (c .before .before .finite .ensures) (c .before .if1 .left), c .if2 .taken)
 
 returns-3 : tie.Need-returns-3
-unfolding weighed shares
+unfolding weighed overTotal
 returns-3 c = rw (said-yes (c .before .before .finite .ensures) (c .before .if1 .left), c .if2 .left)
 
 pub weighed-spec : {M : Type 1} → statement M
-weighed-spec = tie.close (tie.spec finite-requires returns returns-2 returns-3)
+weighed-spec = tie.close (tie.spec (λ c κs. search needs) returns returns-2 returns-3)

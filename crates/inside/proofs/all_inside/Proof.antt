@@ -3,22 +3,16 @@ use borrow.Author.Needs.{needs}
 use Rattle.inside.proofs.all_inside.Statement.{statement}
 use Rattle.inside.proofs.all_inside.Tie as tie
 
-enum-known-b : tie.Need-enum-known-b
-enum-known-b c = search needs
-
-enum-told : tie.Need-enum-told
-enum-told c = search needs
-
 returns : tie.Need-returns
 unfolding allInside
 returns c = rw (c .enum-told .given .1)
-
-all-at-least-zero-requires : tie.Need-all-at-least-zero-requires
-all-at-least-zero-requires c κs = search needs
 
 returns-2 : tie.Need-returns-2
 unfolding allInside
 returns-2 c = rw (c .before .before .b .given .1) (c .all-at-least-zero .ensures)
 
+enum-told : tie.Need-enum-told
+enum-told c = search needs
+
 pub all-inside-spec : {M : Type 1} → statement M
-all-inside-spec = tie.close (tie.spec enum-known-b enum-told returns all-at-least-zero-requires returns-2)
+all-inside-spec = tie.close (tie.spec (λ c. search needs) enum-told returns (λ c κs. search needs) returns-2)

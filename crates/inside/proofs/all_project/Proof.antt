@@ -28,12 +28,6 @@ returns : tie.Need-returns Inv-loop μ-loop
 unfolding allProject
 returns c = sym (every-not _ _ (c .before .before .before .loop .v) (c .before .before .loop-test .taken) (said-no (c .before .vertex-projects .ensures) (c .if1 .taken)))
 
-add-v : tie.Need-add-v Inv-loop μ-loop
-add-v c = omega arith
-
-loop-less : tie.Need-loop-less Inv-loop μ-loop
-loop-less c = omega arith
-
 loop-again : tie.Need-loop-again Inv-loop μ-loop
 loop-again c = (omega arith, every-next _ (c .before .before .before .loop .v) (c .before .before .before .loop .inv .1) (said-yes (c .before .vertex-projects .ensures) (c .if1 .left)))
 
@@ -44,13 +38,4 @@ returns-2 c = every-ended _ 0 (c .before .loop .v) _ (c .before .loop .inv .0) (
 pub all-project-spec : {M : Type 1} → statement M
 all-project-spec =
     tie.close
-    (tie.spec
-    Inv-loop
-    μ-loop
-    loop-holds
-    vertex-projects-requires
-    returns
-    add-v
-    loop-less
-    loop-again
-    returns-2)
+    (tie.spec Inv-loop μ-loop loop-holds vertex-projects-requires returns (λ c. omega arith) (λ c. omega arith) loop-again returns-2)

@@ -16,12 +16,6 @@ returns c = rw (eq-eqb _ empty (c .if1 .taken))
 project-face-requires : tie.Need-project-face-requires
 project-face-requires c κs = (c .before .before .before .pre .0, face-below _ _ (c .before .before .before .pre .1) (c .if1 .left))
 
-weights-in-requires : tie.Need-weights-in-requires
-weights-in-requires c κs = search needs
-
-inside-requires : tie.Need-inside-requires
-inside-requires c κs = search needs
-
 returns-2 : tie.Need-returns-2
 unfolding contains named
 returns-2 c =
@@ -30,6 +24,4 @@ returns-2 c =
     (c .inside .ensures ∙ ap inside (c .before .weights-in .ensures ∙ ap (weightsIn (point2 _)) (told .project-face .ensures)))
 
 pub contains-spec : {M : Type 1} → statement M
-contains-spec =
-    tie.close
-    (tie.spec returns project-face-requires weights-in-requires inside-requires returns-2)
+contains-spec = tie.close (tie.spec returns project-face-requires (λ c κs. search needs) (λ c κs. search needs) returns-2)

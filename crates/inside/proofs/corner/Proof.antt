@@ -6,31 +6,14 @@ use borrow.Author.Needs.{needs}
 use Rattle.inside.proofs.corner.Statement.{statement}
 use Rattle.inside.proofs.corner.Tie as tie
 
-mul-vertex : tie.Need-mul-vertex
-mul-vertex c = search needs
-
-shared-slice-read-vertex : tie.Need-shared-slice-read-vertex
-shared-slice-read-vertex c = search needs
-
 cast-vertex : tie.Need-cast-vertex
 cast-vertex c = omega (arith, c .shared-slice-known3 .given (c .before .before .before .args .j))
 
 vertex-requires : tie.Need-vertex-requires
 vertex-requires c κs = let s = c .before .before .before in corner-there (s .pre .0) (s .args .j) (s .pre .1)
 
-project-requires : tie.Need-project-requires
-project-requires c κs = search needs
-
 returns : tie.Need-returns
 returns c = c .project .ensures ∙ ap (project _) (c .before .vertex .ensures)
 
 pub corner-spec : {M : Type 1} → statement M
-corner-spec =
-    tie.close
-    (tie.spec
-    mul-vertex
-    shared-slice-read-vertex
-    cast-vertex
-    vertex-requires
-    project-requires
-    returns)
+corner-spec = tie.close (tie.spec (λ c. search needs) (λ c. search needs) cast-vertex vertex-requires (λ c κs. search needs) returns)

@@ -3,38 +3,20 @@ use borrow.Author.Needs.{needs}
 use Rattle.inside.proofs.inside.Statement.{statement}
 use Rattle.inside.proofs.inside.Tie as tie
 
-enum-known-b : tie.Need-enum-known-b
-enum-known-b c = search needs
-
-enum-told : tie.Need-enum-told
-enum-told c = search needs
-
 returns : tie.Need-returns
 unfolding inside
 returns c = rw (c .enum-told .given .1)
-
-all-at-least-zero-requires : tie.Need-all-at-least-zero-requires
-all-at-least-zero-requires c κs = search needs
 
 returns-2 : tie.Need-returns-2
 unfolding inside
 returns-2 c = rw (c .before .before .before .b .given .1, ← (c .before .all-at-least-zero .ensures), c .if1 .taken)
 
-all-at-most-zero-requires : tie.Need-all-at-most-zero-requires
-all-at-most-zero-requires c κs = search needs
-
 returns-3 : tie.Need-returns-3
 unfolding inside
 returns-3 c = rw (c .before .before .before .before .b .given .1, ← (c .before .before .all-at-least-zero .ensures), c .before .if1 .left) (c .all-at-most-zero .ensures)
 
+enum-told : tie.Need-enum-told
+enum-told c = search needs
+
 pub inside-spec : {M : Type 1} → statement M
-inside-spec =
-    tie.close
-    (tie.spec
-    enum-known-b
-    enum-told
-    returns
-    all-at-least-zero-requires
-    returns-2
-    all-at-most-zero-requires
-    returns-3)
+inside-spec = tie.close (tie.spec (λ c. search needs) enum-told returns (λ c κs. search needs) returns-2 (λ c κs. search needs) returns-3)

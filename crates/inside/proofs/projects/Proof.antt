@@ -14,12 +14,6 @@ returns c = rw (eq-eqb _ empty (c .if1 .taken))
 project-face-requires : tie.Need-project-face-requires
 project-face-requires c κs = (c .before .before .before .pre .0, face-below _ _ (c .before .before .before .pre .1) (c .if1 .left))
 
-enum-told : tie.Need-enum-told
-enum-told c = search needs
-
-enum-told-2 : tie.Need-enum-told-2
-enum-told-2 c = search needs
-
 returns-2 : tie.Need-returns-2
 unfolding projects named present
 returns-2 c =
@@ -32,6 +26,8 @@ returns-3 c =
     let told = c .before .before in
     rw (ne-eqb _ empty (told .before .if1 .left), ← (told .project-face .ensures), c .enum-told2 .given .1)
 
+enum-told : tie.Need-enum-told
+enum-told c = search needs
+
 pub projects-spec : {M : Type 1} → statement M
-projects-spec =
-    tie.close (tie.spec returns project-face-requires enum-told enum-told-2 returns-2 returns-3)
+projects-spec = tie.close (tie.spec returns project-face-requires enum-told (λ c. search needs) returns-2 returns-3)

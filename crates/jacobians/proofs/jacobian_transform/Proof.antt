@@ -3,18 +3,6 @@ use borrow.Author.Needs.{needs}
 use Rattle.jacobians.proofs.jacobian_transform.Statement.{statement}
 use Rattle.jacobians.proofs.jacobian_transform.Tie as tie
 
-project-untested-requires : tie.Need-project-untested-requires
-project-untested-requires c κs = search needs
-
-jacobian-column-requires : tie.Need-jacobian-column-requires
-jacobian-column-requires c κs = search needs
-
-jacobian-column-requires-2 : tie.Need-jacobian-column-requires-2
-jacobian-column-requires-2 c κs = search needs
-
-jacobian-column-requires-3 : tie.Need-jacobian-column-requires-3
-jacobian-column-requires-3 c κs = search needs
-
 returns : tie.Need-returns
 unfolding jacobian jacobianAt
 returns c =
@@ -26,11 +14,4 @@ returns c =
     )
 
 pub jacobian-transform-spec : {M : Type 1} → statement M
-jacobian-transform-spec =
-    tie.close
-    (tie.spec
-    project-untested-requires
-    jacobian-column-requires
-    jacobian-column-requires-2
-    jacobian-column-requires-3
-    returns)
+jacobian-transform-spec = tie.close (tie.spec (λ c κs. search needs) (λ c κs. search needs) (λ c κs. search needs) (λ c κs. search needs) returns)

@@ -8,15 +8,9 @@ use borrow.Author.Needs.{needs}
 use Rattle.jacobians.proofs.unit.Statement.{statement}
 use Rattle.jacobians.proofs.unit.Tie as tie
 
-dot3-requires : tie.Need-dot3-requires
-dot3-requires c κs = search needs
-
-sqrt-f32-requires : tie.Need-sqrt-f32-requires
-sqrt-f32-requires c κs = search needs
-
 returns : tie.Need-returns
 unfolding unit over3
 returns c = let k = c .before .before .before in ap (over3 floats _) (k .sqrt-f32 .ensures .is ∙ ap (root binary32) (k .before .dot3 .ensures))
 
 pub unit-spec : {M : Type 1} → statement M
-unit-spec = tie.close (tie.spec dot3-requires sqrt-f32-requires returns)
+unit-spec = tie.close (tie.spec (λ c κs. search needs) (λ c κs. search needs) returns)

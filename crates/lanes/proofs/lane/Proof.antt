@@ -2,7 +2,7 @@
 use borrow.Author.Needs.{needs}
 use Rattle.geometry.specs.Arith.{floats}
 use Rattle.geometry.specs.Vector.{vec2}
-use Rattle.geometry.specs.Formula.{areas, total, shares}
+use Rattle.geometry.specs.Formula.{areas, total, overTotal}
 use Rattle.geometry.specs.Leaf.{cornerWeights, weighedAll}
 use Rattle.rules.specs.Scan.{depthAt}
 use Rattle.boxes.specs.Answer.{screenOf}
@@ -11,7 +11,7 @@ use Rattle.lanes.proofs.lane.Statement.{statement}
 use Rattle.lanes.proofs.lane.Tie as tie
 
 returns : tie.Need-returns
-unfolding depthAt cornerWeights weighedAll areas total shares
+unfolding depthAt cornerWeights weighedAll areas total overTotal
 returns c =
     let a = c .before .before .before .before .before .before .before .before .args in
     let q = vec2 (a .qx) (a .qy) in

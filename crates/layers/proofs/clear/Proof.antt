@@ -7,15 +7,6 @@ use borrow.Author.Needs.{needs}
 use Rattle.layers.proofs.clear.Statement.{statement}
 use Rattle.layers.proofs.clear.Tie as tie
 
-clear-code-requires : tie.Need-clear-code-requires
-clear-code-requires c κs = search needs
-
-same-length : tie.Need-same-length
-same-length c = search needs
-
-same-length-2 : tie.Need-same-length-2
-same-length-2 c = search needs
-
 returns : tie.Need-returns
 returns c = clear-refused _ _ _ _ (c .before .clear-code .ensures) (c .if1 .taken)
 
@@ -30,12 +21,6 @@ clear-pixels-requires c κs =
     let asked = c .before .before .before in
     clear-accepted _ _ _ (sym (asked .clear-code .ensures) ∙ c .before .before .if1 .left) .1
 
-same-length-3 : tie.Need-same-length-3
-same-length-3 c = search needs
-
-same-length-4 : tie.Need-same-length-4
-same-length-4 c = search needs
-
 returns-2 : tie.Need-returns-2
 returns-2 c =
     let cleared = c .before .before .before .before in
@@ -45,13 +30,5 @@ returns-2 c =
 pub clear-spec : {M : Type 1} → statement M
 clear-spec =
     tie.close
-    (tie.spec
-    clear-code-requires
-    same-length
-    same-length-2
-    returns
-    mul-clear-pixels
-    clear-pixels-requires
-    same-length-3
-    same-length-4
-    returns-2)
+    (tie.spec (λ c κs. search needs) (λ c. search needs) (λ c. search needs) returns mul-clear-pixels clear-pixels-requires (λ c. search needs)
+    (λ c. search needs) returns-2)

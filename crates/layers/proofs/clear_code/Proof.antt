@@ -5,9 +5,6 @@ use Rattle.layers.specs.Calls.{clearCode}
 use Rattle.layers.proofs.clear_code.Statement.{statement}
 use Rattle.layers.proofs.clear_code.Tie as tie
 
-sizes-ok-requires : tie.Need-sizes-ok-requires
-sizes-ok-requires c κs = search needs
-
 returns : tie.Need-returns
 unfolding clearCode
 returns c =
@@ -29,4 +26,4 @@ returns-3 c =
     (passes 4 _ (said-yes (c .before .layer-ok .ensures) (c .if2 .left)) ends)
 
 pub clear-code-spec : {M : Type 1} → statement M
-clear-code-spec = tie.close (tie.spec sizes-ok-requires returns layer-ok-requires returns-2 returns-3)
+clear-code-spec = tie.close (tie.spec (λ c κs. search needs) returns layer-ok-requires returns-2 returns-3)

@@ -7,15 +7,6 @@ use borrow.Author.Needs.{needs}
 use Rattle.layers.proofs.join.Statement.{statement}
 use Rattle.layers.proofs.join.Tie as tie
 
-join-code-requires : tie.Need-join-code-requires
-join-code-requires c κs = search needs
-
-same-length : tie.Need-same-length
-same-length c = search needs
-
-same-length-2 : tie.Need-same-length-2
-same-length-2 c = search needs
-
 returns : tie.Need-returns
 returns c = join-refused _ _ _ _ _ (c .before .join-code .ensures) (c .if1 .taken)
 
@@ -31,12 +22,6 @@ join-pixels-requires c κs =
     let k = join-accepted _ _ _ _ (sym (asked .join-code .ensures) ∙ c .before .before .if1 .left) in
     (k .1, k .2)
 
-same-length-3 : tie.Need-same-length-3
-same-length-3 c = search needs
-
-same-length-4 : tie.Need-same-length-4
-same-length-4 c = search needs
-
 returns-2 : tie.Need-returns-2
 returns-2 c =
     let joined = c .before .before .before .before in
@@ -46,13 +31,5 @@ returns-2 c =
 pub join-spec : {M : Type 1} → statement M
 join-spec =
     tie.close
-    (tie.spec
-    join-code-requires
-    same-length
-    same-length-2
-    returns
-    mul-join-pixels
-    join-pixels-requires
-    same-length-3
-    same-length-4
-    returns-2)
+    (tie.spec (λ c κs. search needs) (λ c. search needs) (λ c. search needs) returns mul-join-pixels join-pixels-requires (λ c. search needs)
+    (λ c. search needs) returns-2)

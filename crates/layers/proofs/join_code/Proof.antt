@@ -5,9 +5,6 @@ use Rattle.layers.specs.Calls.{joinCode}
 use Rattle.layers.proofs.join_code.Statement.{statement}
 use Rattle.layers.proofs.join_code.Tie as tie
 
-sizes-ok-requires : tie.Need-sizes-ok-requires
-sizes-ok-requires c κs = search needs
-
 returns : tie.Need-returns
 unfolding joinCode
 returns c =
@@ -38,6 +35,4 @@ returns-4 c =
     (passes 4 _ (after-yes (said-yes (c .before .before .before .layer-ok .ensures) (c .before .before .if2 .left)) (said-yes (c .before .layer-ok2 .ensures) (c .if3 .left))) ends)
 
 pub join-code-spec : {M : Type 1} → statement M
-join-code-spec =
-    tie.close
-    (tie.spec sizes-ok-requires returns layer-ok-requires returns-2 layer-ok-requires-2 returns-3 returns-4)
+join-code-spec = tie.close (tie.spec (λ c κs. search needs) returns layer-ok-requires returns-2 layer-ok-requires-2 returns-3 returns-4)

@@ -1,5 +1,5 @@
 -- A table's entries, tables cut in two, and a loop that stores f i at place i, in rising number: it makes `tabulate f`.
-use Prim.Native.Nat.{ℕ, zero, suc, _+_, _<_, _≤_}
+use Prim.Native.Nat.{ℕ, zero, suc, _+_, _<_}
 use mathlib.Core.Path.{_≡_, refl, sym, ap, ap₂, _∙_}
 use mathlib.Core.List.{List, [], _∷_, _++_, append-nil}
 use native.Mathlib.Nat.{le-of-eq, not-suc-le-zero, le-of-suc-le-suc, add-zero, zero-add}

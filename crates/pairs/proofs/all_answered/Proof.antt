@@ -59,9 +59,6 @@ add-i c =
     let s = c .before .before .before .before .before .before .before .before in
     record { fits = omega (arith, c .before .before .before .loop-test .taken, edges-few (s .pre .0 .size .w-most) (s .pre .0 .size .h-most) (s .args .right) (s .args .down)) }
 
-loop-less : tie.Need-loop-less Inv-loop μ-loop
-loop-less c = omega arith
-
 loop-again : tie.Need-loop-again Inv-loop μ-loop
 loop-again c =
     let s = c .before .before .before .before .before .before .before .before in
@@ -77,17 +74,5 @@ returns-2 c = asking-all (c .before .loop .inv) (c .loop-test .left)
 pub all-answered-spec : {M : Type 1} → statement M
 all-answered-spec =
     tie.close
-    (tie.spec
-    Inv-loop
-    μ-loop
-    sub-columns
-    sub-n
-    mul-n
-    loop-holds
-    pair-answered-requires
-    returns
-    next-requires
-    add-i
-    loop-less
-    loop-again
+    (tie.spec Inv-loop μ-loop sub-columns sub-n mul-n loop-holds pair-answered-requires returns next-requires add-i (λ c. omega arith) loop-again
     returns-2)

@@ -37,12 +37,6 @@ term-at-requires c κs =
     let long = sound .values in
     ((omega arith, omega arith), sound .gradients ∙ sym (sound .values))
 
-add-k : tie.Need-add-k Inv-loop μ-loop
-add-k c = omega arith
-
-loop-less : tie.Need-loop-less Inv-loop μ-loop
-loop-less c = omega arith
-
 loop-again : tie.Need-loop-again Inv-loop μ-loop
 unfolding sumOf
 loop-again c = (omega arith, rw (add-one, ← (c .before .before .loop .inv .1), c .term-at .ensures))
@@ -52,16 +46,4 @@ unfolding dldr
 returns c = let e : c .before .loop .k ≡ c .before .before .before .before .args .num-vdim = omega (arith, c .before .loop .inv .0) in c .before .loop .inv .1 ∙ ap (sumOf floats _) e
 
 pub dldr-spec : {M : Type 1} → statement M
-dldr-spec =
-    tie.close
-    (tie.spec
-    Inv-loop
-    μ-loop
-    mul-at0
-    mul-at1
-    loop-holds
-    term-at-requires
-    add-k
-    loop-less
-    loop-again
-    returns)
+dldr-spec = tie.close (tie.spec Inv-loop μ-loop mul-at0 mul-at1 loop-holds term-at-requires (λ c. omega arith) (λ c. omega arith) loop-again returns)

@@ -6,9 +6,6 @@ use borrow.Author.Needs.{needs}
 use Rattle.pairs.proofs.pair_answered.Statement.{statement}
 use Rattle.pairs.proofs.pair_answered.Tie as tie
 
-pair-at-requires : tie.Need-pair-at-requires
-pair-at-requires c κs = search needs
-
 returns : tie.Need-returns
 unfolding answered
 returns c =
@@ -40,6 +37,4 @@ returns-3 c =
     (c .projects2 .ensures)
 
 pub pair-answered-spec : {M : Type 1} → statement M
-pair-answered-spec =
-    tie.close
-    (tie.spec pair-at-requires returns projects-requires returns-2 projects-requires-2 returns-3)
+pair-answered-spec = tie.close (tie.spec (λ c κs. search needs) returns projects-requires returns-2 projects-requires-2 returns-3)

@@ -6,30 +6,6 @@ use borrow.Author.Needs.{needs}
 use Rattle.pairs.proofs.pair_at.Statement.{statement}
 use Rattle.pairs.proofs.pair_at.Tie as tie
 
-number-requires : tie.Need-number-requires
-number-requires c κs = search needs
-
-add-number : tie.Need-add-number
-add-number c = search needs
-
-add-number-2 : tie.Need-add-number-2
-add-number-2 c = search needs
-
-number-requires-2 : tie.Need-number-requires-2
-number-requires-2 c κs = search needs
-
-mul-t10 : tie.Need-mul-t10
-mul-t10 c = search needs
-
-shared-slice-read-t13 : tie.Need-shared-slice-read-t13
-shared-slice-read-t13 c = search needs
-
-mul-t11 : tie.Need-mul-t11
-mul-t11 c = search needs
-
-shared-slice-read-t15 : tie.Need-shared-slice-read-t15
-shared-slice-read-t15 c = search needs
-
 returns : tie.Need-returns
 returns c =
     let n = c .before .before in
@@ -50,13 +26,5 @@ returns c =
 pub pair-at-spec : {M : Type 1} → statement M
 pair-at-spec =
     tie.close
-    (tie.spec
-    number-requires
-    add-number
-    add-number-2
-    number-requires-2
-    mul-t10
-    shared-slice-read-t13
-    mul-t11
-    shared-slice-read-t15
-    returns)
+    (tie.spec (λ c κs. search needs) (λ c. search needs) (λ c. search needs) (λ c κs. search needs) (λ c. search needs) (λ c. search needs)
+    (λ c. search needs) (λ c. search needs) returns)

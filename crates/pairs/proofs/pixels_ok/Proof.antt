@@ -21,12 +21,9 @@ returns-2 : tie.Need-returns-2
 unfolding exactPixels exact
 returns-2 c = rw (eq-eqb _ _ (c .before .if1 .left), ne-eqb _ _ (c .if2 .taken))
 
-mul-result : tie.Need-mul-result
-mul-result c = search needs
-
 returns-3 : tie.Need-returns-3
 unfolding exactPixels exact
 returns-3 c = rw (eq-eqb _ _ (c .before .if1 .left), eq-eqb _ _ (c .if2 .left))
 
 pub pixels-ok-spec : {M : Type 1} → statement M
-pixels-ok-spec = tie.close (tie.spec mul-n returns mul-if2 returns-2 mul-result returns-3)
+pixels-ok-spec = tie.close (tie.spec mul-n returns mul-if2 returns-2 (λ c. search needs) returns-3)

@@ -3,7 +3,6 @@ use mathlib.Core.Path.{refl}
 use mathlib.Core.Bool.{false≢true}
 use native.Mathlib.Nat.{mul-comm}
 use native.Mathlib.Omega.{arith}
-use borrow.Author.Needs.{needs}
 use borrow.Author.Tests.{not-false}
 use Rattle.questions.specs.Laws.{area}
 use Rattle.pixels.specs.Laws.{in-row, in-column}

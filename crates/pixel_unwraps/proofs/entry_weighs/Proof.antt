@@ -12,9 +12,6 @@ returns c = let s = c .before .before .before in rw (named-none (s .args .tri2vt
 tri-new-requires : tie.Need-tri-new-requires
 tri-new-requires c κs = let s = c .before .before .before in (s .pre .0, shows-projects (s .pre .1) (c .if1 .left))
 
-has-world-requires : tie.Need-has-world-requires
-has-world-requires c κs = search needs
-
 returns-2 : tie.Need-returns-2
 unfolding weighsOf
 returns-2 c =
@@ -23,4 +20,4 @@ returns-2 c =
     rw (named-some (s .args .tri2vtx .now) (s .args .entry) (t .if1 .left), c .before .tri-new .ensures .projections) (c .has-world .ensures)
 
 pub entry-weighs-spec : {M : Type 1} → statement M
-entry-weighs-spec = tie.close (tie.spec returns tri-new-requires has-world-requires returns-2)
+entry-weighs-spec = tie.close (tie.spec returns tri-new-requires (λ c κs. search needs) returns-2)

@@ -4,26 +4,14 @@ use borrow.Author.Needs.{needs}
 use Rattle.pixel_unwraps.proofs.like_all_neighbours.Statement.{statement}
 use Rattle.pixel_unwraps.proofs.like_all_neighbours.Tie as tie
 
-like-next-requires : tie.Need-like-next-requires
-like-next-requires c κs = search needs
-
 returns : tie.Need-returns
 returns c = λ e. absurd (false≢true e)
-
-like-next-requires-2 : tie.Need-like-next-requires-2
-like-next-requires-2 c κs = search needs
 
 returns-2 : tie.Need-returns-2
 returns-2 c = λ e. absurd (false≢true e)
 
-like-previous-requires : tie.Need-like-previous-requires
-like-previous-requires c κs = search needs
-
 returns-3 : tie.Need-returns-3
 returns-3 c = λ e. absurd (false≢true e)
-
-like-previous-requires-2 : tie.Need-like-previous-requires-2
-like-previous-requires-2 c κs = search needs
 
 returns-4 : tie.Need-returns-4
 returns-4 c = λ e.
@@ -39,12 +27,4 @@ returns-4 c = λ e.
 pub like-all-neighbours-spec : {M : Type 1} → statement M
 like-all-neighbours-spec =
     tie.close
-    (tie.spec
-    like-next-requires
-    returns
-    like-next-requires-2
-    returns-2
-    like-previous-requires
-    returns-3
-    like-previous-requires-2
-    returns-4)
+    (tie.spec (λ c κs. search needs) returns (λ c κs. search needs) returns-2 (λ c κs. search needs) returns-3 (λ c κs. search needs) returns-4)

@@ -13,9 +13,6 @@ returns c = λ e k l p q. absurd (omega arith)
 returns-2 : tie.Need-returns-2
 returns-2 c = λ e k l p q. absurd (omega arith)
 
-equal-pair-requires : tie.Need-equal-pair-requires
-equal-pair-requires c κs = search needs
-
 returns-3 : tie.Need-returns-3
 returns-3 c = λ e k l p q.
     let s = c .before .before .before .before in
@@ -24,4 +21,4 @@ returns-3 c = λ e k l p q.
     ap₂ (λ (i j : ℕ). equalAt (s .args .pix2tri .now) (s .args .img-w) (edgeFrom (axis (s .args .right) (s .args .down)) i j)) ek el ∙ sym (c .equal-pair .ensures) ∙ e
 
 pub like-previous-spec : {M : Type 1} → statement M
-like-previous-spec = tie.close (tie.spec returns returns-2 equal-pair-requires returns-3)
+like-previous-spec = tie.close (tie.spec returns returns-2 (λ c κs. search needs) returns-3)

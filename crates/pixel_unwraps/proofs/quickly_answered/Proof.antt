@@ -5,9 +5,6 @@ use Rattle.pixel_unwraps.proofs.Pixels.{all-unwrap}
 use Rattle.pixel_unwraps.proofs.quickly_answered.Statement.{statement}
 use Rattle.pixel_unwraps.proofs.quickly_answered.Tie as tie
 
-all-project-requires : tie.Need-all-project-requires
-all-project-requires c κs = search needs
-
 returns : tie.Need-returns
 returns c = λ e. absurd (false≢true e)
 
@@ -20,4 +17,4 @@ returns-2 c = λ e.
     all-unwrap _ _ _ _ _ _ (c .all-weigh-or-inner .ensures e) (a .before .before .before .before .pre) (said-yes (a .all-project .ensures) (c .before .if1 .left))
 
 pub quickly-answered-spec : {M : Type 1} → statement M
-quickly-answered-spec = tie.close (tie.spec all-project-requires returns all-weigh-or-inner-requires returns-2)
+quickly-answered-spec = tie.close (tie.spec (λ c κs. search needs) returns all-weigh-or-inner-requires returns-2)

@@ -6,23 +6,8 @@ use borrow.Author.Needs.{needs}
 use Rattle.pixel_unwraps.proofs.weighs_or_inner.Statement.{statement}
 use Rattle.pixel_unwraps.proofs.weighs_or_inner.Tie as tie
 
-like-all-neighbours-requires : tie.Need-like-all-neighbours-requires
-like-all-neighbours-requires c κs = search needs
-
 returns : tie.Need-returns
 returns c = λ e. inr (c .before .like-all-neighbours .ensures (c .if1 .taken))
-
-number-requires : tie.Need-number-requires
-number-requires c κs = search needs
-
-mul-entry-weighs : tie.Need-mul-entry-weighs
-mul-entry-weighs c = search needs
-
-shared-slice-read-entry-weighs : tie.Need-shared-slice-read-entry-weighs
-shared-slice-read-entry-weighs c = search needs
-
-centre-of-requires : tie.Need-centre-of-requires
-centre-of-requires c κs = search needs
 
 entry-weighs-requires : tie.Need-entry-weighs-requires
 entry-weighs-requires c κs =
@@ -40,12 +25,5 @@ returns-2 c = λ e.
 pub weighs-or-inner-spec : {M : Type 1} → statement M
 weighs-or-inner-spec =
     tie.close
-    (tie.spec
-    like-all-neighbours-requires
-    returns
-    number-requires
-    mul-entry-weighs
-    shared-slice-read-entry-weighs
-    centre-of-requires
-    entry-weighs-requires
-    returns-2)
+    (tie.spec (λ c κs. search needs) returns (λ c κs. search needs) (λ c. search needs) (λ c. search needs) (λ c κs. search needs)
+    entry-weighs-requires returns-2)

@@ -5,15 +5,9 @@ use borrow.Author.Needs.{needs}
 use Rattle.pixels.proofs.as_float.Statement.{statement}
 use Rattle.pixels.proofs.as_float.Tie as tie
 
-cast-result : tie.Need-cast-result
-cast-result c = search needs
-
 int-to-float-result : tie.Need-int-to-float-result
 unfolding inFloat
 int-to-float-result c = le→leb (c .before .args .n) 16777216 (omega arith)
 
-returns : tie.Need-returns
-returns c = search needs
-
 pub as-float-spec : {M : Type 1} → statement M
-as-float-spec = tie.close (tie.spec cast-result int-to-float-result returns)
+as-float-spec = tie.close (tie.spec (λ c. search needs) int-to-float-result (λ c. search needs))

@@ -3,12 +3,9 @@ use borrow.Author.Needs.{needs}
 use Rattle.pixels.proofs.centre.Statement.{statement}
 use Rattle.pixels.proofs.centre.Tie as tie
 
-as-float-requires : tie.Need-as-float-requires
-as-float-requires c κs = search needs
-
 returns : tie.Need-returns
 unfolding centre
 returns c = rw (c .as-float .ensures)
 
 pub centre-spec : {M : Type 1} → statement M
-centre-spec = tie.close (tie.spec as-float-requires returns)
+centre-spec = tie.close (tie.spec (λ c κs. search needs) returns)

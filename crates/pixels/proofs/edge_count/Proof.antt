@@ -5,12 +5,6 @@ use borrow.Author.Needs.{needs}
 use Rattle.pixels.proofs.edge_count.Statement.{statement}
 use Rattle.pixels.proofs.edge_count.Tie as tie
 
-sub-result : tie.Need-sub-result
-sub-result c = search needs
-
-sub-result-2 : tie.Need-sub-result-2
-sub-result-2 c = search needs
-
 mul-result : tie.Need-mul-result
 mul-result c = record { fits = omega (arith, edges-few (c .pre .0 .0) (c .pre .0 .1) (c .args .right) (c .args .down)) }
 
@@ -18,4 +12,4 @@ returns : tie.Need-returns
 returns c = refl
 
 pub edge-count-spec : {M : Type 1} → statement M
-edge-count-spec = tie.close (tie.spec sub-result sub-result-2 mul-result returns)
+edge-count-spec = tie.close (tie.spec (λ c. search needs) (λ c. search needs) mul-result returns)

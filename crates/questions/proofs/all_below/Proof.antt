@@ -18,12 +18,6 @@ abbrev μ-loop : tie.MeasureT-loop
 loop-holds : tie.Need-loop-holds Inv-loop μ-loop
 loop-holds c = (search needs, refl)
 
-mul-if1 : tie.Need-mul-if1 Inv-loop μ-loop
-mul-if1 c = search needs
-
-shared-slice-read-if1 : tie.Need-shared-slice-read-if1 Inv-loop μ-loop
-shared-slice-read-if1 c = search needs
-
 cast-if1 : tie.Need-cast-if1 Inv-loop μ-loop
 cast-if1 c = omega (arith, c .shared-slice-known .given (c .before .before .loop .i))
 
@@ -31,12 +25,6 @@ returns : tie.Need-returns Inv-loop μ-loop
 returns c =
     stopped _ _ _ (c .before .before .before .loop .inv .1) (search needs)
     (le-ltb _ _ (c .if1 .taken))
-
-add-i : tie.Need-add-i Inv-loop μ-loop
-add-i c = search needs
-
-loop-less : tie.Need-loop-less Inv-loop μ-loop
-loop-less c = search needs
 
 loop-again : tie.Need-loop-again Inv-loop μ-loop
 loop-again c = more _ _ _ (c .before .before .before .loop .inv) (search needs) (lt-ltb _ _ (c .if1 .left))
@@ -47,15 +35,5 @@ returns-2 c = ended _ _ (c .before .loop .i) (c .before .loop .inv .1) (search n
 pub all-below-spec : {M : Type 1} → statement M
 all-below-spec =
     tie.close
-    (tie.spec
-    Inv-loop
-    μ-loop
-    loop-holds
-    mul-if1
-    shared-slice-read-if1
-    cast-if1
-    returns
-    add-i
-    loop-less
-    loop-again
+    (tie.spec Inv-loop μ-loop loop-holds (λ c. search needs) (λ c. search needs) cast-if1 returns (λ c. search needs) (λ c. search needs) loop-again
     returns-2)

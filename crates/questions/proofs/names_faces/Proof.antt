@@ -17,25 +17,10 @@ abbrev μ-loop : tie.MeasureT-loop
 loop-holds : tie.Need-loop-holds Inv-loop μ-loop
 loop-holds c = (search needs, refl)
 
-mul-names-face : tie.Need-mul-names-face Inv-loop μ-loop
-mul-names-face c = search needs
-
-shared-slice-read-names-face : tie.Need-shared-slice-read-names-face Inv-loop μ-loop
-shared-slice-read-names-face c = search needs
-
-names-face-requires : tie.Need-names-face-requires Inv-loop μ-loop
-names-face-requires c κs = search needs
-
 returns : tie.Need-returns Inv-loop μ-loop
 returns c =
     stopped _ _ _ (c .before .before .before .before .loop .inv .1) (search needs)
     (sym (c .before .names-face .ensures) ∙ not-true _ (c .if1 .taken))
-
-add-i : tie.Need-add-i Inv-loop μ-loop
-add-i c = search needs
-
-loop-less : tie.Need-loop-less Inv-loop μ-loop
-loop-less c = search needs
 
 loop-again : tie.Need-loop-again Inv-loop μ-loop
 loop-again c =
@@ -48,15 +33,5 @@ returns-2 c = ended _ _ (c .before .loop .i) (c .before .loop .inv .1) (search n
 pub names-faces-spec : {M : Type 1} → statement M
 names-faces-spec =
     tie.close
-    (tie.spec
-    Inv-loop
-    μ-loop
-    loop-holds
-    mul-names-face
-    shared-slice-read-names-face
-    names-face-requires
-    returns
-    add-i
-    loop-less
-    loop-again
-    returns-2)
+    (tie.spec Inv-loop μ-loop loop-holds (λ c. search needs) (λ c. search needs) (λ c κs. search needs) returns (λ c. search needs)
+    (λ c. search needs) loop-again returns-2)

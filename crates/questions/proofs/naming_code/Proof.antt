@@ -4,14 +4,8 @@ use borrow.Author.Needs.{needs}
 use Rattle.questions.proofs.naming_code.Statement.{statement}
 use Rattle.questions.proofs.naming_code.Tie as tie
 
-all-below-requires : tie.Need-all-below-requires
-all-below-requires c κs = search needs
-
 returns : tie.Need-returns
 returns c = refuses 6 _ (said-no (c .before .all-below .ensures) (c .if1 .taken))
-
-names-faces-requires : tie.Need-names-faces-requires
-names-faces-requires c κs = search needs
 
 returns-2 : tie.Need-returns-2
 returns-2 c =
@@ -24,4 +18,4 @@ returns-3 c =
     (passes 7 _ (said-yes (c .before .names-faces .ensures) (c .if2 .left)) ends)
 
 pub naming-code-spec : {M : Type 1} → statement M
-naming-code-spec = tie.close (tie.spec all-below-requires returns names-faces-requires returns-2 returns-3)
+naming-code-spec = tie.close (tie.spec (λ c κs. search needs) returns (λ c κs. search needs) returns-2 returns-3)

@@ -4,22 +4,13 @@ use borrow.Author.Needs.{needs}
 use Rattle.questions.proofs.opening_code.Statement.{statement}
 use Rattle.questions.proofs.opening_code.Tie as tie
 
-sizes-ok-requires : tie.Need-sizes-ok-requires
-sizes-ok-requires c κs = search needs
-
 returns : tie.Need-returns
 returns c = refuses 1 _ (said-no (c .before .sizes-ok .ensures) (c .if1 .taken))
-
-channels-ok-requires : tie.Need-channels-ok-requires
-channels-ok-requires c κs = search needs
 
 returns-2 : tie.Need-returns-2
 returns-2 c =
     passes 1 _ (said-yes (c .before .before .before .sizes-ok .ensures) (c .before .before .if1 .left))
     (refuses 2 _ (said-no (c .before .channels-ok .ensures) (c .if2 .taken)))
-
-slices-ok-requires : tie.Need-slices-ok-requires
-slices-ok-requires c κs = search needs
 
 returns-3 : tie.Need-returns-3
 returns-3 c =
@@ -34,13 +25,4 @@ returns-4 c =
     (passes 3 _ (said-yes (c .before .slices-ok .ensures) (c .if3 .left)) ends))
 
 pub opening-code-spec : {M : Type 1} → statement M
-opening-code-spec =
-    tie.close
-    (tie.spec
-    sizes-ok-requires
-    returns
-    channels-ok-requires
-    returns-2
-    slices-ok-requires
-    returns-3
-    returns-4)
+opening-code-spec = tie.close (tie.spec (λ c κs. search needs) returns (λ c κs. search needs) returns-2 (λ c κs. search needs) returns-3 returns-4)

@@ -3,17 +3,11 @@ use Rattle.lists.specs.Laws.Tests.{said-no, said-yes}
 use Rattle.questions.proofs.slices_ok.Statement.{statement}
 use Rattle.questions.proofs.slices_ok.Tie as tie
 
-groups-ok-requires : tie.Need-groups-ok-requires
-groups-ok-requires c κs = search needs
-
 returns : tie.Need-returns
 returns c = rw (said-no (c .before .groups-ok .ensures) (c .if1 .taken))
-
-groups-ok-requires-2 : tie.Need-groups-ok-requires-2
-groups-ok-requires-2 c κs = search needs
 
 returns-2 : tie.Need-returns-2
 returns-2 c = rw (said-yes (c .before .before .groups-ok .ensures) (c .before .if1 .left)) (c .groups-ok2 .ensures)
 
 pub slices-ok-spec : {M : Type 1} → statement M
-slices-ok-spec = tie.close (tie.spec groups-ok-requires returns groups-ok-requires-2 returns-2)
+slices-ok-spec = tie.close (tie.spec (λ c κs. search needs) returns (λ c κs. search needs) returns-2)

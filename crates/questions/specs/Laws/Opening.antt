@@ -1,7 +1,7 @@
 -- Questions 1 to 3, asked together, and 6 and 7, and what follows them.
 use Prim.Native.Nat.{ℕ, _/_}
 use mathlib.Core.Path.{_≡_, refl}
-use mathlib.Core.Bool.{Bool, true, false, _&&_, cond}
+use mathlib.Core.Bool.{Bool, true, false, cond}
 use mathlib.Core.List.{List, [], _∷_, _++_}
 use lib.ListN.{length}
 use Rattle.questions.specs.Questions.{Question, firstNo, sizes, channels, slices, allBelow, namesFaces, opening, naming, mostCount}

@@ -4,22 +4,22 @@ use mathlib.Core.Bool.{Bool, true, false, _&&_, cond, false≢true}
 use mathlib.Core.List.{[]}
 use lib.Dec.{eqb}
 use lib.Ieee.{Float, nan, inf, fin, binary32, add, sub, mul, neg}
+use lib.Ieee.Scale.{finite}
 use Rattle.geometry.specs.Arith.{floats}
 use Rattle.geometry.specs.Vector.{Vec2, Vec3, flat, Triangle}
 use Rattle.geometry.specs.Formula.{cross2, areas, total}
-use Rattle.geometry.specs.Leaf.{finite, weighed, weighedAll, cornerWeights}
+use Rattle.geometry.specs.Leaf.{weighed, weighedAll, cornerWeights}
 use Rattle.rules.specs.Scan.{depthAt, weighedDepth}
 
 abbrev Both : Float → Float → Type 0
 Both x y = (finite x ≡ true) × (finite y ≡ true)
 
 cond-not : (b s : Bool) → finite (cond b nan (inf s)) ≡ true → ⊥
-unfolding finite
 cond-not true s e = false≢true e
 cond-not false s e = false≢true e
 
 finite-add : (x y : Float) → finite (add binary32 x y) ≡ true → Both x y
-unfolding add finite
+unfolding add
 finite-add nan y e = absurd (false≢true e)
 finite-add (inf s) nan e = absurd (false≢true e)
 finite-add (inf true) (inf true) e = absurd (false≢true e)
@@ -32,7 +32,7 @@ finite-add (fin s m d) (inf t) e = absurd (false≢true e)
 finite-add (fin s m d) (fin t n c) e = (refl, refl)
 
 finite-neg : (x : Float) → finite (neg x) ≡ finite x
-unfolding neg finite
+unfolding neg
 finite-neg nan = refl
 finite-neg (inf s) = refl
 finite-neg (fin s m e) = refl
@@ -42,7 +42,7 @@ unfolding sub
 finite-sub x y e = let k = finite-add x (neg y) e in (k .0, rw finite-neg at (k .1))
 
 finite-mul : (x y : Float) → finite (mul binary32 x y) ≡ true → Both x y
-unfolding mul finite
+unfolding mul
 finite-mul nan y e = absurd (false≢true e)
 finite-mul (inf s) nan e = absurd (false≢true e)
 finite-mul (inf s) (inf t) e = absurd (false≢true e)

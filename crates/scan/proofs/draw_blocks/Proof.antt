@@ -1,5 +1,5 @@
 -- `scan::draw_blocks`: four columns more at each turn.
-use Prim.Native.Nat.{ℕ, _+_, _*_, _-_, _<_, _≤_}
+use Prim.Native.Nat.{ℕ, _+_, _*_, _-_}
 use mathlib.Core.Path.{_≡_, sym, _∙_}
 use native.Mathlib.Omega.{arith}
 use Rattle.layers.specs.Layer.{layer}
@@ -43,9 +43,6 @@ draw-four-requires c κs =
 add-ix : tie.Need-add-ix Inv-loop μ-loop
 add-ix c = record { fits = omega (arith, c .before .before .before .before .before .before .before .before .loop .inv .0 .to, c .before .before .before .before .before .before .before .before .before .before .before .before .before .pre .0 .w-most) }
 
-loop-less : tie.Need-loop-less Inv-loop μ-loop
-loop-less c = omega arith
-
 loop-again : tie.Need-loop-again Inv-loop μ-loop
 loop-again c =
     let m = c .before .before .before .before .before .before .before .before in
@@ -66,16 +63,5 @@ returns c = (c .before .loop .inv .0 .from, c .before .loop .inv .0 .is)
 pub draw-blocks-spec : {M : Type 1} → statement M
 draw-blocks-spec =
     tie.close
-    (tie.spec
-    Inv-loop
-    μ-loop
-    blocks-end-requires
-    centre-requires
-    loop-holds
-    draw-four-requires
-    add-ix
-    loop-less
-    loop-again
-    same-length
-    same-length-2
-    returns)
+    (tie.spec Inv-loop μ-loop blocks-end-requires centre-requires loop-holds draw-four-requires add-ix (λ c. omega arith) loop-again same-length
+    same-length-2 returns)

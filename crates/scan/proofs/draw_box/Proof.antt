@@ -36,9 +36,6 @@ add-iy c =
     let f = c .before .before .before .before .before .before .before .before .before .before .before .before in
     record { fits = omega (arith, f .pre .1 .1 .1 .most, f .pre .0 .h-most) }
 
-loop-less : tie.Need-loop-less Inv-loop μ-loop
-loop-less c = omega arith
-
 loop-again : tie.Need-loop-again Inv-loop μ-loop
 loop-again c =
     let m = c .before .before .before .before .before .before .before .before .before in
@@ -64,14 +61,4 @@ returns c =
 pub draw-box-spec : {M : Type 1} → statement M
 draw-box-spec =
     tie.close
-    (tie.spec
-    Inv-loop
-    μ-loop
-    loop-holds
-    draw-row-requires
-    add-iy
-    loop-less
-    loop-again
-    same-length
-    same-length-2
-    returns)
+    (tie.spec Inv-loop μ-loop loop-holds draw-row-requires add-iy (λ c. omega arith) loop-again same-length same-length-2 returns)

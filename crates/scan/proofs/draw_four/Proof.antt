@@ -1,6 +1,6 @@
 -- `scan::draw_four`: four lanes, each with its mask, and four steps.
 use borrow.Author.Needs.{needs}
-use Prim.Native.Nat.{_+_, _*_}
+use Prim.Native.Nat.{_+_}
 use native.Mathlib.Omega.{arith}
 use Rattle.questions.specs.Laws.{area}
 use Rattle.layers.specs.Layer.{layer}

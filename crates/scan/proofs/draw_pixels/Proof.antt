@@ -34,9 +34,6 @@ draw-pixel-requires c κs =
 add-ix : tie.Need-add-ix Inv-loop μ-loop
 add-ix c = record { fits = omega (arith, c .before .before .before .before .before .before .before .before .before .before .before .pre .1 .1 .0 .most, c .before .before .before .before .before .before .before .before .before .before .before .pre .0 .w-most, c .before .before .before .before .before .before .before .before .before .before .before .pre .0 .h-most) }
 
-loop-less : tie.Need-loop-less Inv-loop μ-loop
-loop-less c = omega arith
-
 loop-again : tie.Need-loop-again Inv-loop μ-loop
 loop-again c =
     let m = c .before .before .before .before .before .before .before .before in
@@ -62,14 +59,4 @@ returns c =
 pub draw-pixels-spec : {M : Type 1} → statement M
 draw-pixels-spec =
     tie.close
-    (tie.spec
-    Inv-loop
-    μ-loop
-    loop-holds
-    draw-pixel-requires
-    add-ix
-    loop-less
-    loop-again
-    same-length
-    same-length-2
-    returns)
+    (tie.spec Inv-loop μ-loop loop-holds draw-pixel-requires add-ix (λ c. omega arith) loop-again same-length same-length-2 returns)

@@ -1,6 +1,5 @@
 -- `scan::draw_row`: blocks of four, and what is left beside the edge.
 use borrow.Author.Needs.{needs}
-use mathlib.Core.Path.{sym, _∙_}
 use native.Mathlib.Omega.{arith}
 use Rattle.layers.specs.Layer.{layer}
 use Rattle.boxes.specs.Answer.{screenOf}

@@ -8,29 +8,11 @@ use borrow.Author.Needs.{needs}
 use Rattle.scattering.proofs.add_face.Statement.{statement}
 use Rattle.scattering.proofs.add_face.Tie as tie
 
-mul-j : tie.Need-mul-j
-mul-j c = search needs
-
-mul-add-vertex : tie.Need-mul-add-vertex
-mul-add-vertex c = search needs
-
-shared-slice-read-add-vertex : tie.Need-shared-slice-read-add-vertex
-shared-slice-read-add-vertex c = search needs
-
 cast-add-vertex : tie.Need-cast-add-vertex
 cast-add-vertex c = omega (arith, c .shared-slice-known2 .given (3 * c .before .before .before .before .args .i))
 
 add-vertex-requires : tie.Need-add-vertex-requires
 add-vertex-requires c κs = let s = c .before .before .before .before in corner-there (s .pre .0) (3 * s .args .i) (omega (arith, s .pre .0 .faces))
-
-add-add-vertex : tie.Need-add-add-vertex
-add-add-vertex c = search needs
-
-mul-add-vertex-2 : tie.Need-mul-add-vertex-2
-mul-add-vertex-2 c = search needs
-
-shared-slice-read-add-vertex-2 : tie.Need-shared-slice-read-add-vertex-2
-shared-slice-read-add-vertex-2 c = search needs
 
 cast-add-vertex-2 : tie.Need-cast-add-vertex-2
 cast-add-vertex-2 c = omega (arith, c .shared-slice-known3 .given (3 * c .before .before .before .before .before .before .before .before .before .args .i + 1))
@@ -38,23 +20,11 @@ cast-add-vertex-2 c = omega (arith, c .shared-slice-known3 .given (3 * c .before
 add-vertex-requires-2 : tie.Need-add-vertex-requires-2
 add-vertex-requires-2 c κs = let s = c .before .before .before .before .before .before .before .before .before in omega (arith, corner-there (s .pre .0) (3 * s .args .i + 1) (omega (arith, s .pre .0 .faces)))
 
-add-add-vertex-2 : tie.Need-add-add-vertex-2
-add-add-vertex-2 c = search needs
-
-mul-add-vertex-3 : tie.Need-mul-add-vertex-3
-mul-add-vertex-3 c = search needs
-
-shared-slice-read-add-vertex-3 : tie.Need-shared-slice-read-add-vertex-3
-shared-slice-read-add-vertex-3 c = search needs
-
 cast-add-vertex-3 : tie.Need-cast-add-vertex-3
 cast-add-vertex-3 c = omega (arith, c .shared-slice-known4 .given (3 * c .before .before .before .before .before .before .before .before .before .before .before .before .before .before .args .i + 2))
 
 add-vertex-requires-3 : tie.Need-add-vertex-requires-3
 add-vertex-requires-3 c κs = let s = c .before .before .before .before .before .before .before .before .before .before .before .before .before .before in omega (arith, corner-there (s .pre .0) (3 * s .args .i + 2) (omega (arith, s .pre .0 .faces)))
-
-same-length : tie.Need-same-length
-same-length c = search needs
 
 returns : tie.Need-returns
 unfolding toFace faceAt
@@ -66,21 +36,6 @@ returns c =
 pub add-face-spec : {M : Type 1} → statement M
 add-face-spec =
     tie.close
-    (tie.spec
-    mul-j
-    mul-add-vertex
-    shared-slice-read-add-vertex
-    cast-add-vertex
-    add-vertex-requires
-    add-add-vertex
-    mul-add-vertex-2
-    shared-slice-read-add-vertex-2
-    cast-add-vertex-2
-    add-vertex-requires-2
-    add-add-vertex-2
-    mul-add-vertex-3
-    shared-slice-read-add-vertex-3
-    cast-add-vertex-3
-    add-vertex-requires-3
-    same-length
-    returns)
+    (tie.spec (λ c. search needs) (λ c. search needs) (λ c. search needs) cast-add-vertex add-vertex-requires (λ c. search needs) (λ c. search needs)
+    (λ c. search needs) cast-add-vertex-2 add-vertex-requires-2 (λ c. search needs) (λ c. search needs) (λ c. search needs) cast-add-vertex-3
+    add-vertex-requires-3 (λ c. search needs) returns)

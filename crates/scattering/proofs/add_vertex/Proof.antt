@@ -4,27 +4,6 @@ use borrow.Author.Needs.{needs}
 use Rattle.scattering.proofs.add_vertex.Statement.{statement}
 use Rattle.scattering.proofs.add_vertex.Tie as tie
 
-mul-i : tie.Need-mul-i
-mul-i c = search needs
-
-add-at-requires : tie.Need-add-at-requires
-add-at-requires c κs = search needs
-
-add-add-at : tie.Need-add-add-at
-add-add-at c = search needs
-
-add-at-requires-2 : tie.Need-add-at-requires-2
-add-at-requires-2 c κs = search needs
-
-add-add-at-2 : tie.Need-add-add-at-2
-add-add-at-2 c = search needs
-
-add-at-requires-3 : tie.Need-add-at-requires-3
-add-at-requires-3 c κs = search needs
-
-same-length : tie.Need-same-length
-same-length c = search needs
-
 returns : tie.Need-returns
 unfolding toVertex
 returns c =
@@ -35,12 +14,5 @@ returns c =
 pub add-vertex-spec : {M : Type 1} → statement M
 add-vertex-spec =
     tie.close
-    (tie.spec
-    mul-i
-    add-at-requires
-    add-add-at
-    add-at-requires-2
-    add-add-at-2
-    add-at-requires-3
-    same-length
-    returns)
+    (tie.spec (λ c. search needs) (λ c κs. search needs) (λ c. search needs) (λ c κs. search needs) (λ c. search needs) (λ c κs. search needs)
+    (λ c. search needs) returns)

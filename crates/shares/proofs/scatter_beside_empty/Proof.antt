@@ -10,12 +10,6 @@ use borrow.Author.Needs.{needs}
 use Rattle.shares.proofs.scatter_beside_empty.Statement.{statement}
 use Rattle.shares.proofs.scatter_beside_empty.Tie as tie
 
-tri-new-requires : tie.Need-tri-new-requires
-tri-new-requires c κs = search needs
-
-is-inside-requires : tie.Need-is-inside-requires
-is-inside-requires c κs = search needs
-
 returns : tie.Need-returns
 unfolding summed flatMap besideEmpty
 returns c =
@@ -23,14 +17,8 @@ returns c =
     let s = n .before .before .before .before in
     rw (inside-is (n .tri-new .ensures) (point2 (s .args .other)), so (c .before .is-inside .ensures) (c .if1 .taken))
 
-along-requires : tie.Need-along-requires
-along-requires c κs = search needs
-
 scatter-requires : tie.Need-scatter-requires
 scatter-requires c κs = let s = c .before .before .before .before .before .before .before .before in (sound-again (s .pre .0) (s .pre .1 .1), s .pre .1 .0 .there)
-
-same-length : tie.Need-same-length
-same-length c = search needs
 
 returns-2 : tie.Need-returns-2
 unfolding besideEmpty
@@ -50,11 +38,4 @@ returns-2 c =
 pub scatter-beside-empty-spec : {M : Type 1} → statement M
 scatter-beside-empty-spec =
     tie.close
-    (tie.spec
-    tri-new-requires
-    is-inside-requires
-    returns
-    along-requires
-    scatter-requires
-    same-length
-    returns-2)
+    (tie.spec (λ c κs. search needs) (λ c κs. search needs) returns (λ c κs. search needs) scatter-requires (λ c. search needs) returns-2)

@@ -12,23 +12,8 @@ use borrow.Author.Needs.{needs}
 use Rattle.shares.proofs.scatter_between.Statement.{statement}
 use Rattle.shares.proofs.scatter_between.Tie as tie
 
-face-contains-requires : tie.Need-face-contains-requires
-face-contains-requires c κs = search needs
-
-tri-new-requires : tie.Need-tri-new-requires
-tri-new-requires c κs = search needs
-
-is-inside-requires : tie.Need-is-inside-requires
-is-inside-requires c κs = search needs
-
-tri-new-requires-2 : tie.Need-tri-new-requires-2
-tri-new-requires-2 c κs = search needs
-
 scatter-intersection-gradient-requires : tie.Need-scatter-intersection-gradient-requires
 scatter-intersection-gradient-requires c κs = let s = c .before .before .before .before .before .before .before .before .before .before in (sound-again (s .pre .0) (s .pre .1 .1 .1), (s .pre .1 .0 .there, s .pre .1 .1 .0 .there))
-
-same-length : tie.Need-same-length
-same-length c = search needs
 
 returns : tie.Need-returns
 returns c =
@@ -45,14 +30,8 @@ returns c =
     )
     (k .scatter-intersection-gradient .ensures)
 
-along-requires : tie.Need-along-requires
-along-requires c κs = search needs
-
 scatter-requires : tie.Need-scatter-requires
 scatter-requires c κs = let s = c .before .before .before .before .before .before .before .before .before .before in (sound-again (s .pre .0) (s .pre .1 .1 .1), s .pre .1 .0 .there)
-
-same-length-2 : tie.Need-same-length-2
-same-length-2 c = search needs
 
 returns-2 : tie.Need-returns-2
 returns-2 c =
@@ -69,9 +48,6 @@ returns-2 c =
     )
     (k .scatter .ensures)
 
-face-contains-requires-2 : tie.Need-face-contains-requires-2
-face-contains-requires-2 c κs = search needs
-
 returns-3 : tie.Need-returns-3
 unfolding summed flatMap
 returns-3 c =
@@ -79,17 +55,8 @@ returns-3 c =
     let s = a .before .before .before .before .before in
     rw (neither-contains (s .args .axis) (s .args .m .now) (s .args .vtx2xyz .now) (faceAt (s .args .tri2vtx .now) (s .args .i0)) (faceAt (s .args .tri2vtx .now) (s .args .i1)) (point2 (s .args .q0)) (point2 (s .args .q1)) (so (a .before .face-contains .ensures) (a .if1 .left)) (said-no (c .before .face-contains2 .ensures) (c .if3 .taken)))
 
-tri-new-requires-3 : tie.Need-tri-new-requires-3
-tri-new-requires-3 c κs = search needs
-
-along-requires-2 : tie.Need-along-requires-2
-along-requires-2 c κs = search needs
-
 scatter-requires-2 : tie.Need-scatter-requires-2
 scatter-requires-2 c κs = let s = c .before .before .before .before .before .before .before .before .before .before in (sound-again (s .pre .0) (s .pre .1 .1 .1), s .pre .1 .1 .0 .there)
-
-same-length-3 : tie.Need-same-length-3
-same-length-3 c = search needs
 
 returns-4 : tie.Need-returns-4
 returns-4 c =
@@ -108,22 +75,6 @@ returns-4 c =
 pub scatter-between-spec : {M : Type 1} → statement M
 scatter-between-spec =
     tie.close
-    (tie.spec
-    face-contains-requires
-    tri-new-requires
-    is-inside-requires
-    tri-new-requires-2
-    scatter-intersection-gradient-requires
-    same-length
-    returns
-    along-requires
-    scatter-requires
-    same-length-2
-    returns-2
-    face-contains-requires-2
-    returns-3
-    tri-new-requires-3
-    along-requires-2
-    scatter-requires-2
-    same-length-3
-    returns-4)
+    (tie.spec (λ c κs. search needs) (λ c κs. search needs) (λ c κs. search needs) (λ c κs. search needs) scatter-intersection-gradient-requires
+    (λ c. search needs) returns (λ c κs. search needs) scatter-requires (λ c. search needs) returns-2 (λ c κs. search needs) returns-3
+    (λ c κs. search needs) (λ c κs. search needs) scatter-requires-2 (λ c. search needs) returns-4)

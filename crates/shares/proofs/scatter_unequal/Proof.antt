@@ -20,9 +20,6 @@ scatter-beside-empty-requires c κs =
     let s = c .before .before .before .before .before .before in
     (s .pre .0, (shows-projects (s .pre .1 .1 .0) (c .before .if2 .left), s .pre .1 .1 .1))
 
-same-length : tie.Need-same-length
-same-length c = search needs
-
 returns-2 : tie.Need-returns-2
 returns-2 c =
     let k = c .before .before in
@@ -40,9 +37,6 @@ scatter-beside-empty-requires-2 : tie.Need-scatter-beside-empty-requires-2
 scatter-beside-empty-requires-2 c κs =
     let s = c .before .before .before .before .before .before in
     (s .pre .0, (shows-projects (s .pre .1 .0) (c .before .before .if1 .left), s .pre .1 .1 .1))
-
-same-length-2 : tie.Need-same-length-2
-same-length-2 c = search needs
 
 returns-3 : tie.Need-returns-3
 returns-3 c =
@@ -62,9 +56,6 @@ scatter-between-requires c κs =
     let s = c .before .before .before .before .before .before in
     (s .pre .0, (shows-projects (s .pre .1 .0) (c .before .before .if1 .left), (shows-projects (s .pre .1 .1 .0) (c .before .if3 .left), s .pre .1 .1 .1)))
 
-same-length-3 : tie.Need-same-length-3
-same-length-3 c = search needs
-
 returns-4 : tie.Need-returns-4
 returns-4 c =
     let k = c .before .before in
@@ -76,14 +67,5 @@ returns-4 c =
 pub scatter-unequal-spec : {M : Type 1} → statement M
 scatter-unequal-spec =
     tie.close
-    (tie.spec
-    returns
-    scatter-beside-empty-requires
-    same-length
-    returns-2
-    scatter-beside-empty-requires-2
-    same-length-2
-    returns-3
-    scatter-between-requires
-    same-length-3
-    returns-4)
+    (tie.spec returns scatter-beside-empty-requires (λ c. search needs) returns-2 scatter-beside-empty-requires-2 (λ c. search needs) returns-3
+    scatter-between-requires (λ c. search needs) returns-4)

@@ -4,9 +4,9 @@ use mathlib.Core.Path.{_≡_, refl}
 use mathlib.Core.List.{List, [], _∷_}
 use lib.Ieee.{nan, ofBits, ofInt, add, sub, mul, div, neg, lt, le, eq}
 use Rattle.lists.specs.Lists.{tabulate, every}
-use Rattle.questions.specs.Questions.{Outcome, outcome, empty, firstNo, sizes, channels, groups, exact, namesFace}
-use Rattle.geometry.specs.Formula.{sumOf, cross2, areas, total, shares, row, over}
-use Rattle.geometry.specs.Leaf.{finite, weighed, weighedAll, cornerWeights, divided, project}
+use Rattle.questions.specs.Questions.{Outcome, outcome, firstNo, sizes, channels, groups, exact, namesFace}
+use Rattle.geometry.specs.Formula.{sumOf, cross2, areas, total, overTotal, row, over}
+use Rattle.geometry.specs.Leaf.{weighed, weighedAll, cornerWeights, divided, project}
 use Rattle.meshes.specs.Mesh.{vertexAt, faceAt}
 use Rattle.meshes.specs.View.{viewOf, named}
 use Rattle.pixels.specs.Pixel.{centre, centreOf}
@@ -21,7 +21,7 @@ use Rattle.sequences.specs.Example.{zero, one, quarter, matrix, corners}
 
 -- T(0.25), 2 × 1, one channel, values 1, 0, incoming 1, 1; the buffers hold 9 and NaN before
 unfoldable pub typed : List ℕ → Outcome EdgeBuffers
-unfolding firstNo sizes channels groups exact every namesFace tabulate vertexAt faceAt named centre centreOf edgeAt cross2 areas total shares row over finite weighed weighedAll cornerWeights divided project allAtLeastZero allAtMostZero inside allThree projectFace weightsIn contains present projects firstInSecond secondInFirst typeOf answered allAnswered sumOf channelTerm dldr exactPixels edgesOf edgeCode edgeTyping add sub mul div neg lt le eq ofBits ofInt
+unfolding firstNo sizes channels groups exact every namesFace tabulate vertexAt faceAt named centre centreOf edgeAt cross2 areas total overTotal row over weighed weighedAll cornerWeights divided project allAtLeastZero allAtMostZero inside allThree projectFace weightsIn contains present projects firstInSecond secondInFirst typeOf answered allAnswered sumOf channelTerm dldr exactPixels edgesOf edgeCode edgeTyping add sub mul div neg lt le eq ofBits ofInt
 typed map =
     edgeTyping (0 ∷ 1 ∷ 2 ∷ []) map 1 (edgeView (viewOf (0 ∷ 1 ∷ 2 ∷ []) map) (matrix zero one) (corners quarter) 2) (pixelValues (one ∷ zero ∷ []) (one ∷ one ∷ []) 1)
     (edgeBuffers (axisBuffers [] []) (axisBuffers (9 ∷ []) (nan ∷ [])))

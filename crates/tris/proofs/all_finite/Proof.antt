@@ -4,32 +4,17 @@ use borrow.Author.Needs.{needs}
 use Rattle.tris.proofs.all_finite.Statement.{statement}
 use Rattle.tris.proofs.all_finite.Tie as tie
 
-enum-known-b : tie.Need-enum-known-b
-enum-known-b c = search needs
-
-enum-told : tie.Need-enum-told
-enum-told c = search needs
-
 returns : tie.Need-returns
 unfolding finiteAll
 returns c = rw (c .enum-told .given .1)
-
-finite-requires : tie.Need-finite-requires
-finite-requires c κs = search needs
 
 returns-2 : tie.Need-returns-2
 unfolding finiteAll
 returns-2 c = rw (c .before .before .before .b .given .1, said-no (c .before .finite .ensures) (c .if1 .taken))
 
-finite-requires-2 : tie.Need-finite-requires-2
-finite-requires-2 c κs = search needs
-
 returns-3 : tie.Need-returns-3
 unfolding finiteAll
 returns-3 c = rw (c .before .before .before .before .before .b .given .1, said-yes (c .before .before .before .finite .ensures) (c .before .before .if1 .left), said-no (c .before .finite2 .ensures) (c .if2 .taken))
-
-finite-requires-3 : tie.Need-finite-requires-3
-finite-requires-3 c κs = search needs
 
 returns-4 : tie.Need-returns-4
 unfolding finiteAll
@@ -39,17 +24,11 @@ returns-5 : tie.Need-returns-5
 unfolding finiteAll
 returns-5 c = rw (c .before .before .before .before .before .before .before .b .given .1, said-yes (c .before .before .before .before .before .finite .ensures) (c .before .before .before .before .if1 .left), said-yes (c .before .before .before .finite2 .ensures) (c .before .before .if2 .left), said-yes (c .before .finite3 .ensures) (c .if3 .left))
 
+enum-told : tie.Need-enum-told
+enum-told c = search needs
+
 pub all-finite-spec : {M : Type 1} → statement M
 all-finite-spec =
     tie.close
-    (tie.spec
-    enum-known-b
-    enum-told
-    returns
-    finite-requires
-    returns-2
-    finite-requires-2
-    returns-3
-    finite-requires-3
-    returns-4
+    (tie.spec (λ c. search needs) enum-told returns (λ c κs. search needs) returns-2 (λ c κs. search needs) returns-3 (λ c κs. search needs) returns-4
     returns-5)

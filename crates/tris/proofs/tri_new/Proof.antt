@@ -6,21 +6,6 @@ use borrow.Author.Needs.{needs}
 use Rattle.tris.proofs.tri_new.Statement.{statement}
 use Rattle.tris.proofs.tri_new.Tie as tie
 
-corners-requires : tie.Need-corners-requires
-corners-requires c κs = search needs
-
-project-untested-requires : tie.Need-project-untested-requires
-project-untested-requires c κs = search needs
-
-project-untested-requires-2 : tie.Need-project-untested-requires-2
-project-untested-requires-2 c κs = search needs
-
-project-untested-requires-3 : tie.Need-project-untested-requires-3
-project-untested-requires-3 c κs = search needs
-
-tri-of-requires : tie.Need-tri-of-requires
-tri-of-requires c κs = search needs
-
 returns : tie.Need-returns
 returns c =
     let u = c .before in
@@ -37,10 +22,4 @@ returns c =
 pub tri-new-spec : {M : Type 1} → statement M
 tri-new-spec =
     tie.close
-    (tie.spec
-    corners-requires
-    project-untested-requires
-    project-untested-requires-2
-    project-untested-requires-3
-    tri-of-requires
-    returns)
+    (tie.spec (λ c κs. search needs) (λ c κs. search needs) (λ c κs. search needs) (λ c κs. search needs) (λ c κs. search needs) returns)

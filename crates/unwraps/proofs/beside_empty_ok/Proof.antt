@@ -5,17 +5,8 @@ use borrow.Author.Needs.{needs}
 use Rattle.unwraps.proofs.beside_empty_ok.Statement.{statement}
 use Rattle.unwraps.proofs.beside_empty_ok.Tie as tie
 
-tri-new-requires : tie.Need-tri-new-requires
-tri-new-requires c κs = search needs
-
-is-inside-requires : tie.Need-is-inside-requires
-is-inside-requires c κs = search needs
-
 returns : tie.Need-returns
 returns c = let n = c .before .before in let s = n .before .before .before in rw (inside-is (n .tri-new .ensures) (point2 (s .args .other)), so (c .before .is-inside .ensures) (c .if1 .taken))
-
-has-world-requires : tie.Need-has-world-requires
-has-world-requires c κs = search needs
 
 returns-2 : tie.Need-returns-2
 returns-2 c =
@@ -25,5 +16,4 @@ returns-2 c =
     rw (inside-is (n .tri-new .ensures) (point2 (s .args .other)), so (e .before .is-inside .ensures) (e .if1 .left), world-is (n .tri-new .ensures) (point2 (s .args .own))) (c .has-world .ensures)
 
 pub beside-empty-ok-spec : {M : Type 1} → statement M
-beside-empty-ok-spec =
-    tie.close (tie.spec tri-new-requires is-inside-requires returns has-world-requires returns-2)
+beside-empty-ok-spec = tie.close (tie.spec (λ c κs. search needs) (λ c κs. search needs) returns (λ c κs. search needs) returns-2)

@@ -11,21 +11,6 @@ use borrow.Author.Needs.{needs}
 use Rattle.unwraps.proofs.between_ok.Statement.{statement}
 use Rattle.unwraps.proofs.between_ok.Tie as tie
 
-tri-new-requires : tie.Need-tri-new-requires
-tri-new-requires c κs = search needs
-
-tri-new-requires-2 : tie.Need-tri-new-requires-2
-tri-new-requires-2 c κs = search needs
-
-is-inside-requires : tie.Need-is-inside-requires
-is-inside-requires c κs = search needs
-
-is-inside-requires-2 : tie.Need-is-inside-requires-2
-is-inside-requires-2 c κs = search needs
-
-crossing-ok-requires : tie.Need-crossing-ok-requires
-crossing-ok-requires c κs = search needs
-
 returns : tie.Need-returns
 returns c =
     let b = c .before in
@@ -38,9 +23,6 @@ returns c =
     (inside-is o0 (point2 (s .args .q1)) ∙ so (b .before .is-inside2 .ensures) (b .if2 .taken)))
     (c .crossing-ok .ensures ∙ crossing-weighs o0 o1 (s .args .axis) (point2 (s .args .q0)) (point2 (s .args .q1)))
 
-has-world-requires : tie.Need-has-world-requires
-has-world-requires c κs = search needs
-
 returns-2 : tie.Need-returns-2
 returns-2 c =
     let b = c .before in
@@ -52,12 +34,6 @@ returns-2 c =
     rw (second-contains (s .args .axis) (s .args .m .now) (s .args .vtx2xyz .now) (faceAt (s .args .tri2vtx .now) (s .args .i0)) (faceAt (s .args .tri2vtx .now) (s .args .i1)) (point2 (s .args .q0)) (point2 (s .args .q1)) (inside-is o1 (point2 (s .args .q0)) ∙ so (a .before .is-inside .ensures) (a .if1 .taken))
     (inside-is o0 (point2 (s .args .q1)) ∙ so (b .before .is-inside2 .ensures) (b .if2 .left)))
     (c .has-world .ensures ∙ one-weighs o0 (point2 (s .args .q0)) (along (s .args .axis)))
-
-is-inside-requires-3 : tie.Need-is-inside-requires-3
-is-inside-requires-3 c κs = search needs
-
-has-world-requires-2 : tie.Need-has-world-requires-2
-has-world-requires-2 c κs = search needs
 
 returns-3 : tie.Need-returns-3
 returns-3 c =
@@ -85,16 +61,5 @@ returns-4 c =
 pub between-ok-spec : {M : Type 1} → statement M
 between-ok-spec =
     tie.close
-    (tie.spec
-    tri-new-requires
-    tri-new-requires-2
-    is-inside-requires
-    is-inside-requires-2
-    crossing-ok-requires
-    returns
-    has-world-requires
-    returns-2
-    is-inside-requires-3
-    has-world-requires-2
-    returns-3
-    returns-4)
+    (tie.spec (λ c κs. search needs) (λ c κs. search needs) (λ c κs. search needs) (λ c κs. search needs) (λ c κs. search needs) returns
+    (λ c κs. search needs) returns-2 (λ c κs. search needs) (λ c κs. search needs) returns-3 returns-4)

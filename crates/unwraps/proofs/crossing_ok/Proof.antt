@@ -8,21 +8,9 @@ use borrow.Author.Needs.{needs}
 use Rattle.unwraps.proofs.crossing_ok.Statement.{statement}
 use Rattle.unwraps.proofs.crossing_ok.Tie as tie
 
-both-weigh-requires : tie.Need-both-weigh-requires
-both-weigh-requires c κs = search needs
-
 returns : tie.Need-returns
 unfolding crossingAnswered
 returns c = let s = c .before .before in or-true (skipped (s .args .axis) (unormal (projectedIn (s .args .t0))) (unormal (projectedIn (s .args .t1)))) (sym (c .before .both-weigh .ensures) ∙ c .if1 .taken)
-
-unormal-pix-requires : tie.Need-unormal-pix-requires
-unormal-pix-requires c κs = search needs
-
-unormal-pix-requires-2 : tie.Need-unormal-pix-requires-2
-unormal-pix-requires-2 c κs = search needs
-
-skipped-requires : tie.Need-skipped-requires
-skipped-requires c κs = search needs
 
 returns-2 : tie.Need-returns-2
 unfolding crossingAnswered
@@ -32,12 +20,4 @@ returns-2 c =
     (c .skipped .ensures ∙ or-false _ (sym (n .before .before .both-weigh .ensures) ∙ n .before .if1 .left))
 
 pub crossing-ok-spec : {M : Type 1} → statement M
-crossing-ok-spec =
-    tie.close
-    (tie.spec
-    both-weigh-requires
-    returns
-    unormal-pix-requires
-    unormal-pix-requires-2
-    skipped-requires
-    returns-2)
+crossing-ok-spec = tie.close (tie.spec (λ c κs. search needs) returns (λ c κs. search needs) (λ c κs. search needs) (λ c κs. search needs) returns-2)

@@ -5,27 +5,12 @@ use borrow.Author.Needs.{needs}
 use Rattle.unwraps.proofs.pair_ok.Statement.{statement}
 use Rattle.unwraps.proofs.pair_ok.Tie as tie
 
-pair-at-requires : tie.Need-pair-at-requires
-pair-at-requires c κs = search needs
-
 returns : tie.Need-returns
 unfolding unwraps weighableAll
 returns c =
     let at = c .before .before in
     let s = at .before .before .before .before in
     rw (shares-equal (s .args .tri2vtx .now) (s .args .m .now) (s .args .vtx2xyz .now) (axis (s .args .right) (s .args .down)) (at .pair-at .ensures) (c .if1 .taken))
-
-centre-of-requires : tie.Need-centre-of-requires
-centre-of-requires c κs = search needs
-
-add-centre-of : tie.Need-add-centre-of
-add-centre-of c = search needs
-
-add-centre-of-2 : tie.Need-add-centre-of-2
-add-centre-of-2 c = search needs
-
-centre-of-requires-2 : tie.Need-centre-of-requires-2
-centre-of-requires-2 c κs = search needs
 
 unequal-ok-requires : tie.Need-unequal-ok-requires
 unequal-ok-requires c κs =
@@ -51,12 +36,5 @@ returns-2 c =
 pub pair-ok-spec : {M : Type 1} → statement M
 pair-ok-spec =
     tie.close
-    (tie.spec
-    pair-at-requires
-    returns
-    centre-of-requires
-    add-centre-of
-    add-centre-of-2
-    centre-of-requires-2
-    unequal-ok-requires
+    (tie.spec (λ c κs. search needs) returns (λ c κs. search needs) (λ c. search needs) (λ c. search needs) (λ c κs. search needs) unequal-ok-requires
     returns-2)

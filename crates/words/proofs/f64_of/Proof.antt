@@ -13,8 +13,5 @@ returns c = read-nan binary64 (c .before .args .pattern) (c .if1 .taken)
 float-from-bits-result : tie.Need-float-from-bits-result
 float-from-bits-result c = read-other binary64 (c .before .args .pattern) (c .if1 .left)
 
-returns-2 : tie.Need-returns-2
-returns-2 c = search needs
-
 pub f64-of-spec : {M : Type 1} → statement M
-f64-of-spec = tie.close (tie.spec returns float-from-bits-result returns-2)
+f64-of-spec = tie.close (tie.spec returns float-from-bits-result (λ c. search needs))

@@ -2,7 +2,6 @@
 use borrow.Author.Needs.{needs}
 use mathlib.Core.Path.{sym, _∙_}
 use mathlib.Core.Bool.{false≢true}
-use native.Mathlib.Omega.{arith}
 use Rattle.boxes.proofs.Reaching.{first-here, first-end}
 use Rattle.boxes.proofs.reach.is_first.Statement.{statement}
 use Rattle.boxes.proofs.reach.is_first.Tie as tie

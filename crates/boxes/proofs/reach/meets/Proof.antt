@@ -1,6 +1,5 @@
 -- `reach::meets`: the last centre and the first decide.
 use borrow.Author.Needs.{needs}
-use mathlib.Core.Bool.{not}
 use borrow.Author.Tests.{not-true}
 use lib.Ieee.{le}
 use Rattle.boxes.proofs.Reaching.{misses-low, misses-high}

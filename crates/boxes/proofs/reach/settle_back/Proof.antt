@@ -12,28 +12,10 @@ Inv-loop lower x from i₀ i = i ≤ from
 abbrev μ-loop : tie.MeasureT-loop
 μ-loop lower x from i₀ i = i
 
-loop-holds : tie.Need-loop-holds Inv-loop μ-loop
-loop-holds c = omega arith
-
-sub-has-reached : tie.Need-sub-has-reached Inv-loop μ-loop
-sub-has-reached c = omega arith
-
-has-reached-requires : tie.Need-has-reached-requires Inv-loop μ-loop
-has-reached-requires c κs = omega arith
-
 returns : tie.Need-returns Inv-loop μ-loop
 returns c =
     let a = c .before .before .before .before .args in
     settled-at (a .lower) (a .x) (a .from) (c .before .before .before .loop .i) (c .before .before .before .loop .inv) (c .before .before .before .before .pre) (omega arith) (said-no (c .before .has-reached .ensures) (c .if1 .taken))
-
-sub-i : tie.Need-sub-i Inv-loop μ-loop
-sub-i c = omega arith
-
-loop-less : tie.Need-loop-less Inv-loop μ-loop
-loop-less c = omega arith
-
-loop-again : tie.Need-loop-again Inv-loop μ-loop
-loop-again c = omega arith
 
 returns-2 : tie.Need-returns-2 Inv-loop μ-loop
 returns-2 c = let a = c .before .before .args in settled-none (a .lower) (a .x) (a .from)
@@ -41,14 +23,5 @@ returns-2 c = let a = c .before .before .args in settled-none (a .lower) (a .x) 
 pub settle-back-spec : {M : Type 1} → statement M
 settle-back-spec =
     tie.close
-    (tie.spec
-    Inv-loop
-    μ-loop
-    loop-holds
-    sub-has-reached
-    has-reached-requires
-    returns
-    sub-i
-    loop-less
-    loop-again
-    returns-2)
+    (tie.spec Inv-loop μ-loop (λ c. omega arith) (λ c. omega arith) (λ c κs. omega arith) returns (λ c. omega arith) (λ c. omega arith)
+    (λ c. omega arith) returns-2)

@@ -17,24 +17,6 @@ abbrev μ-loop : tie.MeasureT-loop
 loop-holds : tie.Need-loop-holds Inv-loop μ-loop
 loop-holds c = turned-none _ _ _ (c .pre)
 
-mul-pix2tri : tie.Need-mul-pix2tri Inv-loop μ-loop
-mul-pix2tri c = search needs
-
-slice-write-pix2tri : tie.Need-slice-write-pix2tri Inv-loop μ-loop
-slice-write-pix2tri c = search needs
-
-mul-pix2depth : tie.Need-mul-pix2depth Inv-loop μ-loop
-mul-pix2depth c = search needs
-
-slice-write-pix2depth : tie.Need-slice-write-pix2depth Inv-loop μ-loop
-slice-write-pix2depth c = search needs
-
-add-i : tie.Need-add-i Inv-loop μ-loop
-add-i c = search needs
-
-loop-less : tie.Need-loop-less Inv-loop μ-loop
-loop-less c = search needs
-
 loop-again : tie.Need-loop-again Inv-loop μ-loop
 unfolding div neg ofBits
 loop-again c = turned-more _ _ _ (c .before .before .pre) (c .before .loop .i) (search needs) (c .before .loop .inv) refl
@@ -51,17 +33,5 @@ returns c = turned-all _ _ _ (c .before .before .pre) (c .before .loop .i) (sear
 pub clear-pixels-spec : {M : Type 1} → statement M
 clear-pixels-spec =
     tie.close
-    (tie.spec
-    Inv-loop
-    μ-loop
-    loop-holds
-    mul-pix2tri
-    slice-write-pix2tri
-    mul-pix2depth
-    slice-write-pix2depth
-    add-i
-    loop-less
-    loop-again
-    same-length
-    same-length-2
-    returns)
+    (tie.spec Inv-loop μ-loop loop-holds (λ c. search needs) (λ c. search needs) (λ c. search needs) (λ c. search needs) (λ c. search needs)
+    (λ c. search needs) loop-again same-length same-length-2 returns)

@@ -24,12 +24,6 @@ join-pixel-requires c κs =
       spans-reaches (at-loop .before .before .before .before .before .pre .1) (at-loop .loop .p) (search needs),
     )
 
-add-p : tie.Need-add-p Inv-loop μ-loop
-add-p c = search needs
-
-loop-less : tie.Need-loop-less Inv-loop μ-loop
-loop-less c = search needs
-
 loop-again : tie.Need-loop-again Inv-loop μ-loop
 loop-again c =
     let called = c .before .before .before .before in
@@ -48,14 +42,4 @@ returns c = turned-all _ _ _ (c .before .before .before .before .before .before 
 pub join-pixels-spec : {M : Type 1} → statement M
 join-pixels-spec =
     tie.close
-    (tie.spec
-    Inv-loop
-    μ-loop
-    loop-holds
-    join-pixel-requires
-    add-p
-    loop-less
-    loop-again
-    same-length
-    same-length-2
-    returns)
+    (tie.spec Inv-loop μ-loop loop-holds join-pixel-requires (λ c. search needs) (λ c. search needs) loop-again same-length same-length-2 returns)

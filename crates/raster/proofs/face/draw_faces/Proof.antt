@@ -81,9 +81,6 @@ add-number c = record { fits = omega (arith, c .before .before .before .before .
 add-i : tie.Need-add-i Inv-loop μ-loop
 add-i c = record { fits = omega (arith, c .before .before .before .before .before .before .before .before .before .before .before .before .before .before .loop .inv .0, c .before .before .before .before .before .before .before .before .before .before .before .before .before .before .before .before .before .before .before .pre .1 .1 .1) }
 
-loop-less : tie.Need-loop-less Inv-loop μ-loop
-loop-less c = omega arith
-
 loop-again : tie.Need-loop-again Inv-loop μ-loop
 loop-again c =
     let m = c .before .before .before .before .before .before .before .before .before .before .before .before .before .before in
@@ -114,30 +111,6 @@ returns c =
 pub draw-faces-spec : {M : Type 1} → statement M
 draw-faces-spec =
     tie.close
-    (tie.spec
-    Inv-loop
-    μ-loop
-    loop-holds
-    mul-at
-    mul-vertex
-    shared-slice-read-vertex
-    cast-vertex
-    vertex-requires
-    add-vertex
-    mul-vertex-2
-    shared-slice-read-vertex-2
-    cast-vertex-2
-    vertex-requires-2
-    add-vertex-2
-    mul-vertex-3
-    shared-slice-read-vertex-3
-    cast-vertex-3
-    vertex-requires-3
-    draw-face-requires
-    add-number
-    add-i
-    loop-less
-    loop-again
-    same-length
-    same-length-2
-    returns)
+    (tie.spec Inv-loop μ-loop loop-holds mul-at mul-vertex shared-slice-read-vertex cast-vertex vertex-requires add-vertex mul-vertex-2
+    shared-slice-read-vertex-2 cast-vertex-2 vertex-requires-2 add-vertex-2 mul-vertex-3 shared-slice-read-vertex-3 cast-vertex-3 vertex-requires-3
+    draw-face-requires add-number add-i (λ c. omega arith) loop-again same-length same-length-2 returns)

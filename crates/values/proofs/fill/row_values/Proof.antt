@@ -64,9 +64,6 @@ mul-pixel-values c =
     let k = run-at {ix = c .before .before .loop .ix} (s .args .c) (s .pre .0 .whole) (s .pre .1 .1 .0) (search needs) (s .pre .1 .1 .1) in
     record { fits = omega arith }
 
-sub-pixel-values : tie.Need-sub-pixel-values Inv-loop μ-loop
-sub-pixel-values c = omega arith
-
 part-pixel-values-start : tie.Need-part-pixel-values-start Inv-loop μ-loop
 part-pixel-values-start c =
     let s = c .before .before .before .before .before .before .before .before .before in
@@ -124,25 +121,6 @@ returns c = filled-ended _ _ (c .before .loop .ix) _ _ _ _ (search needs) (searc
 pub row-values-spec : {M : Type 1} → statement M
 row-values-spec =
     tie.close
-    (tie.spec
-    Inv-loop
-    μ-loop
-    row-at-requires
-    mul-base
-    loop-holds
-    column-at-requires
-    add-p
-    mul-at
-    add-end
-    mul-pixel-values
-    sub-pixel-values
-    part-pixel-values-start
-    part-pixel-values-end
-    mul-pixel-values-2
-    shared-slice-read-pixel-values
-    pixel-values-requires
-    (λ c. search needs)
-    (λ c. search needs)
-    loop-again
-    same-length
-    returns)
+    (tie.spec Inv-loop μ-loop row-at-requires mul-base loop-holds column-at-requires add-p mul-at add-end mul-pixel-values (λ c. omega arith)
+    part-pixel-values-start part-pixel-values-end mul-pixel-values-2 shared-slice-read-pixel-values pixel-values-requires (λ c. search needs)
+    (λ c. search needs) loop-again same-length returns)

@@ -14,29 +14,8 @@ Inv-loop s₀ n i₀ s i = (length s ≡ length s₀) × (n ≤ length s₀)
 abbrev μ-loop : tie.MeasureT-loop
 μ-loop s₀ n i₀ s i = n - i
 
-next-length-requires : tie.Need-next-length-requires Inv-loop μ-loop
-next-length-requires c κs = tt
-
 loop-holds : tie.Need-loop-holds Inv-loop μ-loop
 loop-holds c = (refl, c .next-length .ensures)
-
-next-requires : tie.Need-next-requires Inv-loop μ-loop
-next-requires c κs = tt
-
-f32-of-requires : tie.Need-f32-of-requires Inv-loop μ-loop
-f32-of-requires c κs = tt
-
-mul-s : tie.Need-mul-s Inv-loop μ-loop
-mul-s c = omega arith
-
-slice-write-s : tie.Need-slice-write-s Inv-loop μ-loop
-slice-write-s c = omega arith
-
-add-i : tie.Need-add-i Inv-loop μ-loop
-add-i c = omega arith
-
-loop-less : tie.Need-loop-less Inv-loop μ-loop
-loop-less c = omega arith
 
 loop-again : tie.Need-loop-again Inv-loop μ-loop
 loop-again c = (simp length-set (c .before .before .before .loop .inv .0), c .before .before .before .loop .inv .1)
@@ -50,17 +29,5 @@ returns c = front (c .before .before .next-length .result) (c .before .loop .s) 
 pub read-floats-spec : {M : Type 1} → statement M
 read-floats-spec =
     tie.close
-    (tie.spec
-    Inv-loop
-    μ-loop
-    next-length-requires
-    loop-holds
-    next-requires
-    f32-of-requires
-    mul-s
-    slice-write-s
-    add-i
-    loop-less
-    loop-again
-    same-length
-    returns)
+    (tie.spec Inv-loop μ-loop (λ c κs. tt) loop-holds (λ c κs. tt) (λ c κs. tt) (λ c. omega arith) (λ c. omega arith) (λ c. omega arith)
+    (λ c. omega arith) loop-again same-length returns)

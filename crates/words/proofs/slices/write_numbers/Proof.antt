@@ -13,45 +13,8 @@ Inv-loop s i₀ i = Unit {0}
 abbrev μ-loop : tie.MeasureT-loop
 μ-loop s i₀ i = length s - i
 
-loop-holds : tie.Need-loop-holds Inv-loop μ-loop
-loop-holds c = tt
-
-mul-write : tie.Need-mul-write Inv-loop μ-loop
-mul-write c = search needs
-
-shared-slice-read-write : tie.Need-shared-slice-read-write Inv-loop μ-loop
-shared-slice-read-write c = omega arith
-
-write-requires : tie.Need-write-requires Inv-loop μ-loop
-write-requires c κs = tt
-
-add-i : tie.Need-add-i Inv-loop μ-loop
-add-i c = omega arith
-
-loop-less : tie.Need-loop-less Inv-loop μ-loop
-loop-less c = omega arith
-
-loop-again : tie.Need-loop-again Inv-loop μ-loop
-loop-again c = tt
-
-end-line-requires : tie.Need-end-line-requires Inv-loop μ-loop
-end-line-requires c κs = tt
-
-returns : tie.Need-returns Inv-loop μ-loop
-returns c = tt
-
 pub write-numbers-spec : {M : Type 1} → statement M
 write-numbers-spec =
     tie.close
-    (tie.spec
-    Inv-loop
-    μ-loop
-    loop-holds
-    mul-write
-    shared-slice-read-write
-    write-requires
-    add-i
-    loop-less
-    loop-again
-    end-line-requires
-    returns)
+    (tie.spec Inv-loop μ-loop (λ c. tt) (λ c. search needs) (λ c. omega arith) (λ c κs. tt) (λ c. omega arith) (λ c. omega arith) (λ c. tt)
+    (λ c κs. tt) (λ c. tt))
