@@ -6,9 +6,7 @@ pub mod Algorithm
 pub mod Pattern
 pub mod Fields
 pub mod Standard
-pub mod Examples
 pub mod Closest
 pub mod Values
 pub mod Narrow
-pub mod NarrowExamples
 pub mod NarrowLaws

@@ -7,16 +7,15 @@ use native.Mathlib.Nat.{mul-pos, sub-self}
 use native.Mathlib.Omega.{arith}
 use borrow.Author.Tests.{le-ltb}
 use lib.IntN.{ℤ, pos}
-use lib.Ieee.{Float, nan, inf, fin, binary32, up, down, neg, add, sub, sum, round, eq, ofBits}
+use lib.Ieee.{Float, nan, inf, fin, binary32, up, down, neg, add, sub, sum, round, lt, eq, ofBits}
 use lib.Ieee.Fits.{down-pos}
-use lib.Ieee.Scale.{round-same}
-use lib.Ieee.Scale.{finite}
+use lib.Ieee.Scale.{finite, round-same}
 use Rattle.geometry.specs.Arith.{floats}
-use Rattle.geometry.specs.Vector.{Vec3, Weights, Triangle}
+use Rattle.geometry.specs.Vector.{Vec3, Weights, weights, Triangle}
 use Rattle.geometry.specs.Formula.{overTotal, blend}
 use Rattle.geometry.specs.Leaf.{weighed}
 use Rattle.offers.specs.Offer.{lowest}
-use Rattle.rules.specs.Scan.{weighedDepth, kept, dropped}
+use Rattle.rules.specs.Scan.{weighedDepth, kept, dropBelow, dropped}
 use Rattle.lanes.specs.Answer.{orLowest}
 
 -- ---- a number less itself is 0 only where it is finite
@@ -57,3 +56,18 @@ module _ (s : Triangle (Vec3 Float)) (a : Weights Float) (t : Float) where
       go true true d q = refl
       go true false true q = rw q
       go true false false q = rw q
+
+-- ---- the tests of the three weights, one after the other
+
+module _ (b0 b1 b2 : Float) where
+  pub first-drops : lt b0 dropBelow ≡ true → true ≡ dropped (weights b0 b1 b2)
+  unfolding dropped
+  first-drops e0 = rw e0
+
+  pub second-drops : lt b0 dropBelow ≡ false → lt b1 dropBelow ≡ true → true ≡ dropped (weights b0 b1 b2)
+  unfolding dropped
+  second-drops e0 e1 = rw (e0, e1)
+
+  pub third-decides : {r : Bool} → lt b0 dropBelow ≡ false → lt b1 dropBelow ≡ false → r ≡ lt b2 dropBelow → r ≡ dropped (weights b0 b1 b2)
+  unfolding dropped
+  third-decides e0 e1 e2 = rw (e0, e1) e2

@@ -1,3 +1,4 @@
 -- Lemmas that several proofs cite.
 pub mod Painting
 pub mod FaceList
+pub mod FacePieces

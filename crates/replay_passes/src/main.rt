@@ -6,11 +6,9 @@
 // matrix, map, faces and vertices; then the call's other slices in order.
 
 use words::slices::next;
-use words::slices::read_bytes;
 use words::slices::read_floats;
 use words::slices::read_matrix;
 use words::slices::read_numbers;
-use words::slices::write_bytes;
 use words::slices::write_floats;
 
 // Places in a slice: no stored case has more.
@@ -133,138 +131,6 @@ fn interpolate_bwd(
     );
 }
 
-fn run_edges(
-    img_w: usize,
-    img_h: usize,
-    num_vdim: usize,
-    m: &[f32; 16],
-    pix2tri: &[u32],
-    tri2vtx: &[u32],
-    vtx2xyz: &[f32],
-    pix2val: &[f32],
-    dldw_pix2val: &[f32],
-    hedge2type: &mut [u8],
-    hedge2dldr: &mut [f32],
-    vedge2type: &mut [u8],
-    vedge2dldr: &mut [f32],
-) {
-    let code = edges::edge_gradient_and_type(
-        tri2vtx,
-        vtx2xyz,
-        m,
-        img_w,
-        img_h,
-        pix2tri,
-        num_vdim,
-        pix2val,
-        dldw_pix2val,
-        hedge2type,
-        hedge2dldr,
-        vedge2type,
-        vedge2dldr,
-    );
-    words::write(code, LINE_END);
-    write_bytes(hedge2type);
-    write_floats(hedge2dldr);
-    write_bytes(vedge2type);
-    write_floats(vedge2dldr);
-}
-
-fn edge_gradient_and_type(
-    img_w: usize,
-    img_h: usize,
-    num_vdim: usize,
-    m: &[f32; 16],
-    pix2tri: &[u32],
-    tri2vtx: &[u32],
-    vtx2xyz: &[f32],
-) {
-    let mut pix2val = [0.0f32; ROOM];
-    let mut dldw_pix2val = [0.0f32; ROOM];
-    let mut hedge2type = [0u8; ROOM];
-    let mut hedge2dldr = [0.0f32; ROOM];
-    let mut vedge2type = [0u8; ROOM];
-    let mut vedge2dldr = [0.0f32; ROOM];
-    let p = read_floats(&mut pix2val);
-    let d = read_floats(&mut dldw_pix2val);
-    let ht = read_bytes(&mut hedge2type);
-    let hd = read_floats(&mut hedge2dldr);
-    let vt = read_bytes(&mut vedge2type);
-    let vd = read_floats(&mut vedge2dldr);
-    run_edges(
-        img_w,
-        img_h,
-        num_vdim,
-        m,
-        pix2tri,
-        tri2vtx,
-        vtx2xyz,
-        &pix2val[..p],
-        &dldw_pix2val[..d],
-        &mut hedge2type[..ht],
-        &mut hedge2dldr[..hd],
-        &mut vedge2type[..vt],
-        &mut vedge2dldr[..vd],
-    );
-}
-
-fn run_bwd(
-    img_w: usize,
-    img_h: usize,
-    num_vdim: usize,
-    m: &[f32; 16],
-    pix2tri: &[u32],
-    tri2vtx: &[u32],
-    vtx2xyz: &[f32],
-    pix2val: &[f32],
-    dldw_pix2val: &[f32],
-    dldw_vtx2xyz: &mut [f32],
-) {
-    let code = edge_bwd::bwd(
-        tri2vtx,
-        vtx2xyz,
-        dldw_vtx2xyz,
-        m,
-        img_w,
-        img_h,
-        pix2tri,
-        num_vdim,
-        pix2val,
-        dldw_pix2val,
-    );
-    words::write(code, LINE_END);
-    write_floats(dldw_vtx2xyz);
-}
-
-fn bwd(
-    img_w: usize,
-    img_h: usize,
-    num_vdim: usize,
-    m: &[f32; 16],
-    pix2tri: &[u32],
-    tri2vtx: &[u32],
-    vtx2xyz: &[f32],
-) {
-    let mut pix2val = [0.0f32; ROOM];
-    let mut dldw_pix2val = [0.0f32; ROOM];
-    let mut dldw_vtx2xyz = [0.0f32; ROOM];
-    let p = read_floats(&mut pix2val);
-    let d = read_floats(&mut dldw_pix2val);
-    let x = read_floats(&mut dldw_vtx2xyz);
-    run_bwd(
-        img_w,
-        img_h,
-        num_vdim,
-        m,
-        pix2tri,
-        tri2vtx,
-        vtx2xyz,
-        &pix2val[..p],
-        &dldw_pix2val[..d],
-        &mut dldw_vtx2xyz[..x],
-    );
-}
-
 fn run_velocities(
     img_w: usize,
     img_h: usize,
@@ -316,10 +182,10 @@ fn dispatch(
         return;
     }
     if call == 7 {
-        bwd(img_w, img_h, num_vdim, m, pix2tri, tri2vtx, vtx2xyz);
+        replay_edges::bwd(img_w, img_h, num_vdim, m, pix2tri, tri2vtx, vtx2xyz);
         return;
     }
-    edge_gradient_and_type(img_w, img_h, num_vdim, m, pix2tri, tri2vtx, vtx2xyz);
+    replay_edges::edge_gradient_and_type(img_w, img_h, num_vdim, m, pix2tri, tri2vtx, vtx2xyz);
 }
 
 // What calls 4 to 7 have in common.

@@ -2,6 +2,7 @@
 -- that the contracts cite.
 pub mod Values
 pub mod Edges
+pub mod Floats
 use mathlib.Core.Path.{_≡_, refl}
 use mathlib.Core.List.{[], _∷_}
 use lib.Ieee.{nan, binary32, ofBits}

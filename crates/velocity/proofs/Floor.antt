@@ -1,6 +1,6 @@
 -- The cell of a coordinate, and what the code's comparisons and its truncation say of it.
 use Prim.Native.Nat.{ℕ, _+_, _*_, _-_, min, _≤_}
-use mathlib.Core.Path.{_≡_, refl, sym, _∙_}
+use mathlib.Core.Path.{_≡_, refl, sym, _∙_, ap, ap₂}
 use mathlib.Core.Bool.{Bool, true, false, false≢true}
 use native.Mathlib.Nat.{min-eq-right, min-le-right, zero-min, le-div-iff-mul-le}
 use native.Mathlib.Omega.{arith}
@@ -31,7 +31,7 @@ cell-most most x e = rw e (held most x)
 pub stands : (size places : ℕ) (x : Float) {low high : ℕ} {t : Float} → low ≡ cell (size - 2) x → high ≡ min (low + 1) (places - 1) → t ≡ clampUnit (floats .sub x (asFloat low))
     → stand low high t ≡ standAt size places x
 unfolding standAt standFrom
-stands size places x e h t = rw (← e, h, t)
+stands size places x {low} e h t = ap₂ (stand low) h t ∙ ap (standFrom places x) e
 
 -- not above −1, or NaN
 pub cell-low : (most : ℕ) (x : Float) → lt (fin true 1 (pos 0)) x ≡ false → 0 ≡ cell most x

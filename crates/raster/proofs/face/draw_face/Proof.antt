@@ -1,51 +1,46 @@
 -- `face::draw_face`: three projections, and the pieces.
-use borrow.Author.Needs.{needs}
+use mathlib.Core.Path.{_≡_, sym, ap, _∙_}
+use Rattle.geometry.specs.Answer.{projectionOf}
 use Rattle.layers.specs.Layer.{layer}
-use Rattle.rules.specs.Piece.{pieces, projectedPieces}
-use Rattle.raster.proofs.Painting.{none-done}
+use borrow.Author.Needs.{needs}
+use Rattle.raster.proofs.FacePieces.{no-first, no-second, no-third, all-projected, passed-over, pieces-drawn}
 use Rattle.raster.proofs.face.draw_face.Statement.{statement}
 use Rattle.raster.proofs.face.draw_face.Tie as tie
 
 returns : tie.Need-returns
-unfolding pieces projectedPieces
-returns c = let f = c .before .before .before .before .before in let a = f .args in rw (← (c .before .before .project .ensures), c .enum-told .given .1) (none-done (a .w) (a .h) (a .number) (layer (a .pix2tri .now) (a .pix2depth .now)) (f .pre .1))
+returns c =
+    let f = c .before .before .before .before .before in
+    passed-over _ _ _ (layer _ _) (f .pre .1) (no-first _ _ _ _ (sym (c .before .before .project .ensures) ∙ ap projectionOf (c .enum-told .given .1)))
 
 returns-2 : tie.Need-returns-2
-unfolding pieces projectedPieces
 returns-2 c =
     let f = c .before .before .before .before .before .before .before .before .before in
-    let a = f .args in
-    rw (← (c .before .before .before .before .before .before .project .ensures), c .before .before .before .before .a .given .1, ← (c .before .before .project2 .ensures), c .enum-told2 .given .1)
-    (none-done (a .w) (a .h) (a .number) (layer (a .pix2tri .now) (a .pix2depth .now)) (f .pre .1))
+    let first = c .before .before .before .before in
+    passed-over _ _ _ (layer _ _) (f .pre .1)
+    (no-second _ _ _ _ (sym (first .before .before .project .ensures) ∙ ap projectionOf (first .a .given .1))
+    (sym (c .before .before .project2 .ensures) ∙ ap projectionOf (c .enum-told2 .given .1)))
 
 returns-3 : tie.Need-returns-3
-unfolding pieces projectedPieces
 returns-3 c =
     let f = c .before .before .before .before .before .before .before .before .before .before .before .before .before in
-    let a = f .args in
-    rw (
-      ← (c .before .before .before .before .before .before .before .before .before .before .project .ensures),
-      c .before .before .before .before .before .before .before .before .a .given .1,
-      ← (c .before .before .before .before .before .before .project2 .ensures),
-      c .before .before .before .before .b .given .1,
-      ← (c .before .before .project3 .ensures),
-      c .enum-told3 .given .1,
-    )
-    (none-done (a .w) (a .h) (a .number) (layer (a .pix2tri .now) (a .pix2depth .now)) (f .pre .1))
+    let second = c .before .before .before .before in
+    let first = second .before .before .before .before in
+    passed-over _ _ _ (layer _ _) (f .pre .1)
+    (no-third _ _ _ _ (sym (first .before .before .project .ensures) ∙ ap projectionOf (first .a .given .1))
+    (sym (second .before .before .project2 .ensures) ∙ ap projectionOf (second .b .given .1))
+    (sym (c .before .before .project3 .ensures) ∙ ap projectionOf (c .enum-told3 .given .1)))
 
 returns-4 : tie.Need-returns-4
-unfolding pieces
 returns-4 c =
-    rw (
-      ← (c .before .before .before .before .before .before .before .before .before .before .before .before .before .before .before .before .before .before .before .before .project .ensures),
-      c .before .before .before .before .before .before .before .before .before .before .before .before .before .before .before .before .before .before .a .given .1,
-      ← (c .before .before .before .before .before .before .before .before .before .before .before .before .before .before .before .before .project2 .ensures),
-      c .before .before .before .before .before .before .before .before .before .before .before .before .before .before .b .given .1,
-      ← (c .before .before .before .before .before .before .before .before .before .before .before .before .project3 .ensures),
-      c .before .before .before .before .before .before .before .before .before .before .c .given .1,
-      ← (c .before .before .before .before .before .clip .ensures),
-    )
-    (c .before .before .before .before .draw-pieces .ensures)
+    let clipped = c .before .before .before .before .before in
+    let third = clipped .before .before .before .before .before in
+    let second = third .before .before .before .before in
+    let first = second .before .before .before .before in
+    pieces-drawn _ _ _ (layer _ _) (c .before .before .before .before .draw-pieces .ensures)
+    (clipped .clip .ensures
+    ∙ all-projected _ _ _ _ (sym (first .before .before .project .ensures) ∙ ap projectionOf (first .a .given .1))
+    (sym (second .before .before .project2 .ensures) ∙ ap projectionOf (second .b .given .1))
+    (sym (third .before .before .project3 .ensures) ∙ ap projectionOf (third .c .given .1)))
 
 pub draw-face-spec : {M : Type 1} → statement M
 draw-face-spec =
