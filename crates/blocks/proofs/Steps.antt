@@ -1,52 +1,16 @@
--- One pixel of a layer, and four in a row: what is stored is what a step leaves.
+-- Four pixels of a layer in a row: what is stored is what four steps leave.
 use Prim.Native.Nat.{ℕ, _+_}
-use mathlib.Core.Path.{_≡_, refl, sym, ap, ap₂, _∙_}
+use mathlib.Core.Path.{_≡_, refl, sym, ap, _∙_}
 use mathlib.Core.Bool.{Bool, true, false, _||_, cond, false≢true}
 use native.Mathlib.Omega.{arith}
-use lib.Ieee.{Float, nan, inf, fin, lt}
-use lib.ListN.{length-set}
-use lib.Seq.{getD-set-same, getD-set-other, set-getD}
+use lib.Ieee.{Float, lt}
 use Rattle.offers.specs.Offer.{lowest, exceeds, pick}
-use Rattle.layers.specs.Cell.{Cell, cell}
-use Rattle.layers.specs.Layer.{Layer, at}
-use Rattle.layers.specs.Steps.{Spans, Reaches, written}
-use Rattle.blocks.specs.Step.{stepped, stepped4}
-
--- ---- what a test leaves written
-
-pub kept-step : (l : Layer) (p k : ℕ) (z : Float) → lt (at l p .depth) z ≡ false → l ≡ stepped l p k z
-unfolding stepped pick exceeds
-kept-step l p k z e = rw (e, set-getD (l .pix2tri) p 0, set-getD (l .pix2depth) p nan)
-
-pub taken-step : (l : Layer) (p k : ℕ) (z : Float) → lt (at l p .depth) z ≡ true → written l p (cell z k) ≡ stepped l p k z
-unfolding stepped pick exceeds
-taken-step l p k z e = rw e
-
--- ---- −infinity and NaN are never greater
-
-pub never-greater : (z : Float) → lt lowest z ≡ false → (d : Float) → lt d z ≡ false
-unfolding lt
-never-greater nan e nan = refl
-never-greater nan e (inf s) = refl
-never-greater nan e (fin s m x) = refl
-never-greater (inf true) e nan = refl
-never-greater (inf true) e (inf true) = refl
-never-greater (inf true) e (inf false) = refl
-never-greater (inf true) e (fin s m x) = refl
-never-greater (inf false) e d = absurd (false≢true (sym e))
-never-greater (fin t n y) e d = absurd (false≢true (sym e))
-
--- ---- the cells after a step
-
-pub at-written : (l : Layer) (p : ℕ) (c : Cell) → Reaches l p → at (written l p c) p ≡ c
-at-written l p c r = ap₂ cell (getD-set-same (l .pix2depth) p (c .depth) nan (r .depths)) (getD-set-same (l .pix2tri) p (c .payload) 0 (r .numbers))
-
-pub at-other : (l : Layer) (p q : ℕ) (c : Cell) → (q ≡ p → ⊥) → at (written l p c) q ≡ at l q
-at-other l p q c n = ap₂ cell (getD-set-other (l .pix2depth) p q (c .depth) nan n) (getD-set-other (l .pix2tri) p q (c .payload) 0 n)
-
-pub spans-written : (l : Layer) (p : ℕ) (c : Cell) (n : ℕ) → Spans l n → Spans (written l p c) n
-spans-written l p c n s =
-    record { numbers = length-set (l .pix2tri) p (c .payload) ∙ s .numbers; depths = length-set (l .pix2depth) p (c .depth) ∙ s .depths }
+use Rattle.cells.specs.Cell.{Cell, cell}
+use Rattle.cells.specs.Layer.{Layer, at}
+use Rattle.cells.specs.Steps.{written, stepped}
+use Rattle.cells.specs.Laws.Cells.{at-other}
+use Rattle.cells.specs.Laws.Put.{kept-step, never-greater}
+use Rattle.blocks.specs.Step.{stepped4}
 
 -- ---- stored together
 

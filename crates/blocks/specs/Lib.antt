@@ -1,2 +1,2 @@
--- What the contracts of one pixel of a layer, and of four, cite beside the rules.
+-- What the contracts of four pixels of a layer cite beside the rules.
 pub mod Step

@@ -1,24 +1,13 @@
-// Pixels of a layer to which depths are brought: one, and a block of four in a row, loaded together, stepped together, stored together.
+// A block of four pixels of a layer in a row, to which depths are brought: loaded together, stepped together, stored together. No function here is a public call.
 
 ghost use mathlib.Core.Path.{_≡_};
 ghost use mathlib.Core.Bool.{_||_};
 ghost use Prim.Native.Nat.{_+_};
 ghost use lib.Ieee.{lt};
 ghost use Rattle.offers.specs.Offer.{lowest};
-ghost use Rattle.layers.specs.Layer.{layer};
-ghost use Rattle.layers.specs.Steps.{Reaches};
-ghost use Rattle.blocks.specs.Step.{stepped, stepped4};
-
-// Depth and number are written at pixel p only when the depth is greater than the stored one.
-pub fn put(pix2tri: &mut [u32], pix2depth: &mut [f32], p: usize, depth: f32, number: u32)
-    requires { ⌜ Reaches (layer (now pix2tri) (now pix2depth)) p ⌝ }
-    ensures { λ _. ⌜ layer (now (pix2tri .exit)) (now (pix2depth .exit)) ≡ stepped (layer (now (pix2tri .entry)) (now (pix2depth .entry))) p number depth ⌝ }
-{
-    if pix2depth[p] < depth {
-        pix2depth[p] = depth;
-        pix2tri[p] = number;
-    }
-}
+ghost use Rattle.cells.specs.Layer.{layer};
+ghost use Rattle.cells.specs.Steps.{Reaches};
+ghost use Rattle.blocks.specs.Step.{stepped4};
 
 // Whether one of the four can be greater than a stored depth.
 fn some_offer(z0: f32, z1: f32, z2: f32, z3: f32) -> bool
@@ -59,14 +48,14 @@ fn put_four(
     let t1 = pix2tri[p + 1];
     let t2 = pix2tri[p + 2];
     let t3 = pix2tri[p + 3];
-    pix2depth[p] = layers::cells::pick_depth(d0, z0);
-    pix2depth[p + 1] = layers::cells::pick_depth(d1, z1);
-    pix2depth[p + 2] = layers::cells::pick_depth(d2, z2);
-    pix2depth[p + 3] = layers::cells::pick_depth(d3, z3);
-    pix2tri[p] = layers::cells::pick_number(d0, z0, t0, number);
-    pix2tri[p + 1] = layers::cells::pick_number(d1, z1, t1, number);
-    pix2tri[p + 2] = layers::cells::pick_number(d2, z2, t2, number);
-    pix2tri[p + 3] = layers::cells::pick_number(d3, z3, t3, number);
+    pix2depth[p] = cells::pick_depth(d0, z0);
+    pix2depth[p + 1] = cells::pick_depth(d1, z1);
+    pix2depth[p + 2] = cells::pick_depth(d2, z2);
+    pix2depth[p + 3] = cells::pick_depth(d3, z3);
+    pix2tri[p] = cells::pick_number(d0, z0, t0, number);
+    pix2tri[p + 1] = cells::pick_number(d1, z1, t1, number);
+    pix2tri[p + 2] = cells::pick_number(d2, z2, t2, number);
+    pix2tri[p + 3] = cells::pick_number(d3, z3, t3, number);
 }
 
 // The same, where there is something to bring: memory is not touched for nothing.

@@ -8,8 +8,8 @@ use lib.ListN.{length}
 use lib.Ieee.{Float}
 use Rattle.questions.specs.Questions.{outcome, sizes, slices, numbers, allBelow, mostCount}
 use Rattle.questions.specs.Laws.{call-refused, call-done, Sized, sized, sliced, whole, accepted}
-use Rattle.layers.specs.Layer.{Layer}
-use Rattle.layers.specs.Steps.{Spans}
+use Rattle.cells.specs.Layer.{Layer}
+use Rattle.cells.specs.Steps.{Spans}
 use Rattle.layers.specs.Calls.{exactLayer}
 use Rattle.layers.specs.Laws.Answers.{exact-spans}
 use Rattle.meshes.specs.Mesh.{facesOf}

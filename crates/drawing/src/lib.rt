@@ -2,7 +2,7 @@
 
 ghost use mathlib.Core.Path.{_≡_};
 ghost use Rattle.questions.specs.Questions.{outcome};
-ghost use Rattle.layers.specs.Layer.{layer};
+ghost use Rattle.cells.specs.Layer.{layer};
 ghost use Rattle.rules.specs.Calls.{drawCode, draws};
 
 // Questions 1, 3, 4, 5 and 6.
@@ -53,7 +53,7 @@ pub fn pix2tri_by_rasterization(
     if code != 0 {
         return code;
     }
-    raster::face::draw_faces(
+    faces::draw_faces(
         pix2tri,
         pix2depth,
         tri2vtx,

@@ -10,8 +10,8 @@ use Rattle.meshes.specs.Laws.{summed-then}
 use Rattle.pixels.specs.Edge.{hedge, vedge}
 use Rattle.pairs.specs.Pairs.{EdgeView}
 use Rattle.pairs.specs.Gradient.{PixelValues}
-use Rattle.edge_bwd.specs.Additions.{axisAdditions, passAdditions}
-use Rattle.edge_bwd.specs.Calls.{bwdCode, edgeBwd}
+use Rattle.axis_bwd.specs.Additions.{axisAdditions}
+use Rattle.edge_bwd.specs.Calls.{bwdCode, passAdditions, edgeBwd}
 
 module _ (tri map : List ℕ) (h : ℕ) (s : EdgeView) (v : PixelValues) (dxyz : List Float) (code : ℕ) (e : code ≡ bwdCode tri map h s v dxyz) where
   pub bwd-refused : (code ≡ 0 → ⊥) → outcome code dxyz ≡ edgeBwd tri map h s v dxyz

@@ -1,3 +1,2 @@
 -- laws that the proofs share
-pub mod Turns
 pub mod Calls

@@ -5,11 +5,12 @@ use mathlib.Core.List.{List, [], _∷_, _++_}
 use lib.ListN.{length}
 use lib.Ieee.{Float}
 use Rattle.questions.specs.Questions.{Question, ask, firstNo, Outcome, answer, exact, opening, naming}
-use Rattle.meshes.specs.Sums.{summed}
+use Rattle.meshes.specs.Sums.{Addition, summed}
+use Rattle.pixels.specs.Edge.{hedge, vedge}
 use Rattle.pairs.specs.Pairs.{EdgeView, bothAnswered}
 use Rattle.pairs.specs.Gradient.{PixelValues, exactPixels}
 use Rattle.unwraps.specs.Unwraps.{bothUnwrap}
-use Rattle.edge_bwd.specs.Additions.{passAdditions}
+use Rattle.axis_bwd.specs.Additions.{axisAdditions}
 
 -- 4: the map, values and gradients, and as many coordinates in the accumulator as in the vertices
 abbrev pub exactBwd : ℕ → ℕ → List ℕ → PixelValues → List Float → List Float → Bool
@@ -25,6 +26,10 @@ bwdCode tri map h s v dxyz =
     firstNo
     (opening (s .width) h (v .channels) (length tri) (length (s .vertices))
     ++ ask 4 (exactBwd (s .width) h map v (s .vertices) dxyz) ∷ (naming (length (s .vertices) / 3) tri map ++ ofPairs h s))
+
+-- what the pass adds, in order: horizontal edges first, then vertical ones
+unfoldable pub passAdditions : ℕ → EdgeView → PixelValues → List Addition
+passAdditions h s v = axisAdditions hedge h s v ++ axisAdditions vedge h s v
 
 -- the code, and `dldw_vtx2xyz` afterwards
 unfoldable pub edgeBwd : List ℕ → List ℕ → ℕ → EdgeView → PixelValues → List Float → Outcome (List Float)

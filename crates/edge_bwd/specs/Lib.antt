@@ -1,5 +1,4 @@
 -- 01, "Edges": the call `bwd`.
-pub mod Additions
 pub mod Calls
 pub mod Steps
 -- proved of the definitions above

@@ -7,7 +7,7 @@ use lib.Dec.{T, isEq, eqb, eqb-refl, lit<}
 use lib.Pow.{pow-pos, pow-mono}
 use lib.Ieee.{nearest}
 use lib.Ieee.Nearest.{closest, closest-mono}
-use Rattle.floats.proofs.Neighbours.{nearest-down, nearest-up}
+use Rattle.roots.specs.Laws.Neighbours.{nearest-down, nearest-up}
 
 -- ---- by twice the remainder
 

@@ -16,8 +16,8 @@ use lib.Ieee.Exact.{HasValue}
 use lib.Ieee.Nearest.{closest, closest-same, closest-mono}
 use lib.Ieee.Scale.{round-same}
 use Rattle.floats.specs.Narrow.{narrow}
-use Rattle.floats.specs.Steps.{Packable}
-use Rattle.floats.proofs.Neighbours.{joined, pow-lt-back}
+use Rattle.roots.specs.Steps.{Packable}
+use Rattle.roots.specs.Laws.Neighbours.{joined, pow-lt-back}
 
 -- `round` at a fraction that is q / 2 ^ by of 2 ^ k smallest values, where it drops k digits
 pub round-at : (f : Format) (s : Bool) (num den q by k : ℕ) → 0 < den → size (num * 2 ^ low f / den) - prec f ≡ k

@@ -11,8 +11,8 @@ use lib.Ieee.{Float, nan, inf, fin, binary32, up, down, fits}
 use lib.Ieee.Fits.{and-l, and-r, nan-fits, inf-fits, round-fits}
 use lib.Ieee.Exact.{HasValue, round-exact}
 use Rattle.floats.specs.Narrow.{narrow}
-use Rattle.floats.proofs.Neighbours.{joined, pow-lt-back}
-use Rattle.floats.proofs.Pattern.{value-unique}
+use Rattle.roots.specs.Laws.Neighbours.{joined, pow-lt-back}
+use Rattle.roots.specs.Laws.Pattern.{value-unique}
 use Rattle.floats.proofs.Narrow.{narrow-value}
 
 pub narrow-fits : (x : Float) → T (fits binary32 (narrow x))

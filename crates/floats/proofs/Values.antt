@@ -11,8 +11,8 @@ use lib.Pow.{pow-mono, shl-lt}
 use lib.Ieee.{Float, inf, binary64, units, fits, isNan, ofBits, toBits}
 use lib.Ieee.Bits.{ofBits-toBits, toBits-lt, nanBits-is, nanBits-above, is-false}
 use lib.Ieee.Exact.{HasValue, units-val}
-use Rattle.floats.specs.Steps.{Packable}
-use Rattle.floats.proofs.Pattern.{packed}
+use Rattle.roots.specs.Steps.{Packable}
+use Rattle.roots.specs.Laws.Pattern.{packed}
 
 module _ (x : Float) (held : T (fits binary64 x)) where
   abbrev b : ℕ

@@ -1,4 +1,2 @@
--- What the float tools answer (01, "Float tools").
-pub mod Root
+-- What narrowing and the length of a pair answer (01, "Float tools").
 pub mod Narrow
-pub mod Steps

@@ -1,7 +1,7 @@
 -- From binary64 to binary32, to nearest even, and the length of a pair as 01 has it. Definitions only.
 use Prim.Native.Nat.{_*_}
 use lib.Ieee.{Float, nan, inf, fin, binary32, binary64, up, down, round, add, mul}
-use Rattle.floats.specs.Root.{root}
+use Rattle.roots.specs.Root.{root}
 
 -- IEEE 754-2019 convertFormat: a NaN gives a NaN, an infinity itself, and a number the nearest value, which may be a subnormal, a zero or an infinity
 unfoldable pub narrow : Float → Float

@@ -41,7 +41,3 @@ module _ {A : Type 0} (R : Arith A) where
   -- `mult_mat3_col_major` of g and j: "entry k is j[3k]g0+j[3k+1]g1+j[3k+2]g2"
   unfoldable pub multMat3 : Vec3 A → Mat3 A → Vec3 A
   multMat3 g j = vec3 (dot3 R (j .c0) g) (dot3 R (j .c1) g) (dot3 R (j .c2) g)
-
-  -- a vector over a number
-  unfoldable pub over3 : Vec3 A → A → Vec3 A
-  over3 n r = vec3 (n .x ⊘ r) (n .y ⊘ r) (n .z ⊘ r)

@@ -1,4 +1,3 @@
--- 01, "Projection" and "Unit normal": how a projected point moves with its point, and the direction of a triangle's plane.
+-- 01, "Projection": how a projected point moves with its point.
 pub mod Formula
-pub mod Normal
 pub mod Answer

@@ -1,14 +1,12 @@
-// 01, "Projection" and "Unit normal": `jacobian_transform`, `mult_mat3_col_major` and the unit normal. Every function is total: values in, value out.
+// 01, "Projection": `jacobian_transform` and `mult_mat3_col_major`. Every function is total: values in, value out.
 // No function here is a public call.
 
 ghost use mathlib.Core.Path.{_≡_};
 ghost use Prim.Native.Nat.{_<_};
 ghost use Rattle.geometry.specs.Arith.{floats};
-ghost use Rattle.geometry.specs.Vector.{triangle};
 ghost use Rattle.geometry.specs.Leaf.{entries};
 ghost use Rattle.geometry.specs.Answer.{point3, projectedOf};
 ghost use Rattle.jacobians.specs.Formula as formula;
-ghost use Rattle.jacobians.specs.Normal as normal;
 ghost use Rattle.jacobians.specs.Answer.{matrixOf};
 use geometry::Projected;
 use geometry::Vec3;
@@ -78,22 +76,4 @@ pub fn mult_mat3_col_major(g: Vec3, j: Mat3) -> Vec3
         y: rays::dot3(c1, g),
         z: rays::dot3(c2, g),
     }
-}
-
-// n over the root of n·n.
-fn unit(n: Vec3) -> Vec3
-    ensures { λ r. ⌜ point3 r ≡ normal.unit (point3 n) ⌝ }
-{
-    let r = floats::sqrt_f32(rays::dot3(n, n));
-    Vec3 {
-        x: n.x / r,
-        y: n.y / r,
-        z: n.z / r,
-    }
-}
-
-pub fn unit_normal(p0: Vec3, p1: Vec3, p2: Vec3) -> Vec3
-    ensures { λ r. ⌜ point3 r ≡ normal.unitNormal (triangle (point3 p0) (point3 p1) (point3 p2)) ⌝ }
-{
-    unit(rays::cross3(rays::minus3(p1, p0), rays::minus3(p2, p0)))
 }

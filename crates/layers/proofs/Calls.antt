@@ -4,8 +4,8 @@ use mathlib.Core.Path.{_≡_}
 use Rattle.questions.specs.Questions.{outcome}
 use Rattle.questions.specs.Laws.{call-refused, call-done}
 use Rattle.offers.specs.Offer.{pick}
-use Rattle.layers.specs.Cell.{clear}
-use Rattle.layers.specs.Layer.{Layer, at, pixelwise}
+use Rattle.cells.specs.Cell.{clear}
+use Rattle.cells.specs.Layer.{Layer, at, pixelwise}
 use Rattle.layers.specs.Calls.{clearCode, clearing, joinCode, joining}
 
 module _ (l : Layer) (w h code : ℕ) where

@@ -5,8 +5,8 @@ use mathlib.Core.List.{[], _∷_}
 use lib.ListN.{length}
 use Rattle.questions.specs.Questions.{ask, firstNo, Outcome, answer, sizes, exact}
 use Rattle.offers.specs.Offer.{pick}
-use Rattle.layers.specs.Cell.{clear}
-use Rattle.layers.specs.Layer.{Layer, at, pixelwise}
+use Rattle.cells.specs.Cell.{clear}
+use Rattle.cells.specs.Layer.{Layer, at, pixelwise}
 
 -- question 4 of a layer of w * h pixels
 abbrev pub exactLayer : ℕ → ℕ → Layer → Bool

@@ -1,4 +1,2 @@
 -- Laws of the definitions.
-pub mod Pixels
 pub mod Answers
-pub mod Cells

@@ -2,10 +2,8 @@
 ghost use mathlib.Core.Path.{_≡_};
 ghost use Rattle.questions.specs.Laws.{Sized};
 ghost use Rattle.questions.specs.Questions.{outcome};
-ghost use Rattle.layers.specs.Layer.{layer};
+ghost use Rattle.cells.specs.Layer.{layer};
 ghost use Rattle.layers.specs.Calls.{exactLayer, clearCode, clearing, joinCode, joining};
-
-pub mod cells;
 
 // Question 4 of one layer, for the calls that are lent one.
 pub fn layer_ok(pix2tri: &[u32], pix2depth: &[f32], img_w: usize, img_h: usize) -> bool

@@ -3,10 +3,10 @@
 
 ghost use mathlib.Core.Path.{_≡_};
 ghost use lib.Ieee.{binary32, binary64};
-ghost use Rattle.floats.specs.Root.{SquareRoot};
+ghost use Rattle.roots.specs.Root.{SquareRoot};
 ghost use Rattle.floats.specs.Narrow.{narrow, hypotOf};
 ghost use Rattle.questions.specs.Questions.{outcome};
-ghost use Rattle.layers.specs.Layer.{layer};
+ghost use Rattle.cells.specs.Layer.{layer};
 ghost use Rattle.layers.specs.Calls.{clearing, joining};
 ghost use Rattle.meshes.specs.View.{viewOf};
 ghost use Rattle.rules.specs.Calls.{draws};
@@ -235,14 +235,14 @@ pub extern "C" fn paqelzim_interpolate_from_edges(
 pub extern "C" fn paqelzim_sqrt_f32(x: f32) -> f32
     ensures { λ r. ⌜ SquareRoot binary32 x r ⌝ }
 {
-    floats::sqrt_f32(x)
+    roots::sqrt_f32(x)
 }
 
 #[no_mangle]
 pub extern "C" fn paqelzim_sqrt_f64(x: f64) -> f64
     ensures { λ r. ⌜ SquareRoot binary64 x r ⌝ }
 {
-    floats::sqrt_f64(x)
+    roots::sqrt_f64(x)
 }
 
 #[no_mangle]

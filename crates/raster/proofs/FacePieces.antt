@@ -6,8 +6,8 @@ use mathlib.Core.List.{List, []}
 use lib.Ieee.{Float}
 use Rattle.geometry.specs.Vector.{Vec3, Projected}
 use Rattle.geometry.specs.Leaf.{entries, project}
-use Rattle.layers.specs.Layer.{Layer}
-use Rattle.layers.specs.Steps.{Spans}
+use Rattle.cells.specs.Layer.{Layer}
+use Rattle.cells.specs.Steps.{Spans}
 use Rattle.rules.specs.Piece.{Piece, pieces, projectedPieces}
 use Rattle.rules.specs.Draw.{painted}
 use Rattle.raster.specs.Face.{piecesCells}

@@ -1,4 +1,3 @@
 -- Lemmas that several proofs cite.
 pub mod Painting
-pub mod FaceList
 pub mod FacePieces

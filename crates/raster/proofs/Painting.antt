@@ -7,10 +7,10 @@ use native.Mathlib.Omega.{arith}
 use lib.Ieee.{Float}
 use Rattle.geometry.specs.Vector.{Vec3, Triangle}
 use Rattle.questions.specs.Laws.{Sized}
-use Rattle.layers.specs.Cell.{Cell}
+use Rattle.cells.specs.Cell.{Cell}
 use Rattle.offers.specs.Offers.{numbered}
-use Rattle.layers.specs.Layer.{Layer}
-use Rattle.layers.specs.Steps.{Spans}
+use Rattle.cells.specs.Layer.{Layer}
+use Rattle.cells.specs.Steps.{Spans}
 use Rattle.rules.specs.Piece.{Piece}
 use Rattle.rules.specs.Scan.{candidate, screened}
 use Rattle.rules.specs.Offers.{pieceBrings, piecesBring}

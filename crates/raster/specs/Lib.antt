@@ -1,3 +1,3 @@
--- What the drawing loops' contracts cite beside the rules.
+-- What the contracts of a face and its pieces cite beside the rules.
 pub mod Piece
 pub mod Face

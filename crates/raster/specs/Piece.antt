@@ -4,7 +4,7 @@ use mathlib.Core.List.{List}
 use lib.Ieee.{Float}
 use Rattle.geometry.specs.Vector.{Vec3, Triangle}
 use Rattle.rules.specs.Scan.{candidate}
-use Rattle.layers.specs.Cell.{Cell}
+use Rattle.cells.specs.Cell.{Cell}
 use Rattle.offers.specs.Offers.{numbered}
 
 unfoldable pub pieceCells : Triangle (Vec3 Float) → ℕ → ℕ → ℕ → List Cell

@@ -16,121 +16,6 @@ const ROOM: usize = 128;
 
 const LINE_END: u8 = 10;
 
-fn run_interpolate(
-    img_w: usize,
-    img_h: usize,
-    num_vdim: usize,
-    m: &[f32; 16],
-    pix2tri: &[u32],
-    tri2vtx: &[u32],
-    vtx2xyz: &[f32],
-    vtx2val: &[f32],
-    pix2val: &mut [f32],
-) {
-    let code = values::interpolate(
-        img_w,
-        img_h,
-        pix2tri,
-        tri2vtx,
-        vtx2xyz,
-        num_vdim,
-        vtx2val,
-        m,
-        pix2val,
-    );
-    words::write(code, LINE_END);
-    write_floats(pix2val);
-}
-
-fn interpolate(
-    img_w: usize,
-    img_h: usize,
-    num_vdim: usize,
-    m: &[f32; 16],
-    pix2tri: &[u32],
-    tri2vtx: &[u32],
-    vtx2xyz: &[f32],
-) {
-    let mut vtx2val = [0.0f32; ROOM];
-    let mut pix2val = [0.0f32; ROOM];
-    let v = read_floats(&mut vtx2val);
-    let p = read_floats(&mut pix2val);
-    run_interpolate(
-        img_w,
-        img_h,
-        num_vdim,
-        m,
-        pix2tri,
-        tri2vtx,
-        vtx2xyz,
-        &vtx2val[..v],
-        &mut pix2val[..p],
-    );
-}
-
-fn run_interpolate_bwd(
-    img_w: usize,
-    img_h: usize,
-    num_vdim: usize,
-    m: &[f32; 16],
-    pix2tri: &[u32],
-    tri2vtx: &[u32],
-    vtx2xyz: &[f32],
-    vtx2val: &[f32],
-    dldw_pix2val: &[f32],
-    dldw_vtx2xyz: &mut [f32],
-    dldw_vtx2val: &mut [f32],
-) {
-    let code = values_bwd::interpolate_bwd(
-        img_w,
-        img_h,
-        pix2tri,
-        tri2vtx,
-        vtx2xyz,
-        num_vdim,
-        vtx2val,
-        m,
-        dldw_pix2val,
-        dldw_vtx2xyz,
-        dldw_vtx2val,
-    );
-    words::write(code, LINE_END);
-    write_floats(dldw_vtx2xyz);
-    write_floats(dldw_vtx2val);
-}
-
-fn interpolate_bwd(
-    img_w: usize,
-    img_h: usize,
-    num_vdim: usize,
-    m: &[f32; 16],
-    pix2tri: &[u32],
-    tri2vtx: &[u32],
-    vtx2xyz: &[f32],
-) {
-    let mut vtx2val = [0.0f32; ROOM];
-    let mut dldw_pix2val = [0.0f32; ROOM];
-    let mut dldw_vtx2xyz = [0.0f32; ROOM];
-    let mut dldw_vtx2val = [0.0f32; ROOM];
-    let v = read_floats(&mut vtx2val);
-    let p = read_floats(&mut dldw_pix2val);
-    let x = read_floats(&mut dldw_vtx2xyz);
-    let d = read_floats(&mut dldw_vtx2val);
-    run_interpolate_bwd(
-        img_w,
-        img_h,
-        num_vdim,
-        m,
-        pix2tri,
-        tri2vtx,
-        vtx2xyz,
-        &vtx2val[..v],
-        &dldw_pix2val[..p],
-        &mut dldw_vtx2xyz[..x],
-        &mut dldw_vtx2val[..d],
-    );
-}
-
 fn run_velocities(
     img_w: usize,
     img_h: usize,
@@ -174,11 +59,11 @@ fn dispatch(
     vtx2xyz: &[f32],
 ) {
     if call == 4 {
-        interpolate(img_w, img_h, num_vdim, m, pix2tri, tri2vtx, vtx2xyz);
+        replay_values::interpolate(img_w, img_h, num_vdim, m, pix2tri, tri2vtx, vtx2xyz);
         return;
     }
     if call == 5 {
-        interpolate_bwd(img_w, img_h, num_vdim, m, pix2tri, tri2vtx, vtx2xyz);
+        replay_values::interpolate_bwd(img_w, img_h, num_vdim, m, pix2tri, tri2vtx, vtx2xyz);
         return;
     }
     if call == 7 {

@@ -4,7 +4,7 @@ use mathlib.Core.List.{List, [], _∷_}
 use lib.ListN.{length}
 use lib.Ieee.{Float}
 use Rattle.questions.specs.Questions.{ask, firstNo, Outcome, answer, sizes, slices, numbers, allBelow}
-use Rattle.layers.specs.Layer.{Layer}
+use Rattle.cells.specs.Layer.{Layer}
 use Rattle.layers.specs.Calls.{exactLayer}
 use Rattle.meshes.specs.Mesh.{facesOf}
 use Rattle.rules.specs.Offers.{scene}

@@ -2,8 +2,8 @@
 use Prim.Native.Nat.{ℕ, _*_}
 use mathlib.Core.List.{List}
 use Rattle.offers.specs.Offer.{offered}
-use Rattle.layers.specs.Cell.{Cell}
-use Rattle.layers.specs.Layer.{Layer, at, pixelwise}
+use Rattle.cells.specs.Cell.{Cell}
+use Rattle.cells.specs.Layer.{Layer, at, pixelwise}
 use Rattle.meshes.specs.Mesh.{Face}
 use Rattle.rules.specs.Offers.{Scene, brought}
 

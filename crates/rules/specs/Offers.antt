@@ -3,7 +3,7 @@ use Prim.Native.Nat.{ℕ, _/_, _%_}
 use mathlib.Core.Path.{_≡_}
 use mathlib.Core.List.{List, [], _∷_, _++_}
 use lib.Ieee.{Float}
-use Rattle.layers.specs.Cell.{Cell}
+use Rattle.cells.specs.Cell.{Cell}
 use Rattle.offers.specs.Offers as any
 use Rattle.offers.specs.Offers.{numbered, offersOf, Greatest}
 use Rattle.meshes.specs.Mesh.{Face, vertexAt}

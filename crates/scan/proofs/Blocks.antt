@@ -10,10 +10,11 @@ use lib.Dec.{ltb}
 use lib.Ieee.{Float, lt, le}
 use Rattle.geometry.specs.Vector.{Vec3, vec2, Triangle}
 use Rattle.offers.specs.Offer.{lowest}
-use Rattle.layers.specs.Cell.{Cell}
-use Rattle.layers.specs.Layer.{Layer, at}
-use Rattle.layers.specs.Steps.{Spans}
-use Rattle.layers.specs.Laws.Pixels.{spans-reaches}
+use Rattle.cells.specs.Cell.{Cell}
+use Rattle.cells.specs.Layer.{Layer, at}
+use Rattle.cells.specs.Steps.{Spans, stepped}
+use Rattle.cells.specs.Laws.Pixels.{spans-reaches}
+use Rattle.cells.specs.Laws.Put.{kept-step, never-greater}
 use Rattle.pixels.specs.Pixel.{centre}
 use Rattle.pixels.specs.Laws.{number-below}
 use Rattle.questions.specs.Laws.{Sized}
@@ -23,11 +24,10 @@ use Rattle.rules.specs.Laws.Paint.{painted-none, painted-same, painted-append}
 use Rattle.lanes.specs.Answer.{orLowest}
 use Rattle.boxes.specs.Box.{box}
 use Rattle.scan.specs.Cells.{boxCells, upTo}
-use Rattle.blocks.specs.Step.{stepped, stepped4}
+use Rattle.blocks.specs.Step.{stepped4}
 use Rattle.boxes.proofs.Reaching.{below-or}
 use Rattle.scan.proofs.Boxes.{box-no-columns, box-columns}
 use Rattle.scan.proofs.Centres.{centre-before, centre-after}
-use Rattle.blocks.proofs.Steps.{kept-step, never-greater}
 use Rattle.scan.proofs.Pixel.{pixel-done}
 use Rattle.scan.proofs.Turns.{Turn, turn-first, turn-next}
 

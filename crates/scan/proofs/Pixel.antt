@@ -8,11 +8,12 @@ use lib.Dec.{eqb}
 use lib.Ieee.{Float, lt}
 use Rattle.geometry.specs.Vector.{Vec2, vec2, Vec3, Weights, Triangle}
 use Rattle.offers.specs.Offer.{lowest, exceeds, pick, offered}
-use Rattle.layers.specs.Cell.{Cell, cell}
+use Rattle.cells.specs.Cell.{Cell, cell}
 use Rattle.offers.specs.Offers.{numbered}
-use Rattle.layers.specs.Layer.{Layer, at}
-use Rattle.layers.specs.Steps.{Spans, Reaches, written}
-use Rattle.layers.specs.Laws.Cells.{same-layer}
+use Rattle.cells.specs.Layer.{Layer, at}
+use Rattle.cells.specs.Steps.{Spans, Reaches, written, stepped}
+use Rattle.cells.specs.Laws.Cells.{same-layer, at-written, at-other, spans-written}
+use Rattle.cells.specs.Laws.Put.{never-greater}
 use Rattle.pixels.specs.Pixel.{centre, centreOf}
 use Rattle.rules.specs.Scan.{depthAt, weighedDepth, kept, dropped, centreAt}
 use Rattle.rules.specs.Draw.{painted}
@@ -20,8 +21,6 @@ use Rattle.rules.specs.Laws.Paint.{at-painted, spans-painted}
 use Rattle.lanes.specs.Answer.{orLowest}
 use Rattle.boxes.specs.Box.{box}
 use Rattle.scan.specs.Cells.{boxCells}
-use Rattle.blocks.specs.Step.{stepped}
-use Rattle.blocks.proofs.Steps.{never-greater, at-written, at-other, spans-written}
 use Rattle.scan.proofs.Boxes.{box-here, box-elsewhere}
 
 -- ---- −infinity in the place of no depth

@@ -6,7 +6,7 @@ use lib.Dec.{ltb}
 use lib.Ieee.{Float}
 use Rattle.geometry.specs.Vector.{Vec3, Triangle}
 use Rattle.offers.specs.Offers.{numbered}
-use Rattle.layers.specs.Cell.{Cell}
+use Rattle.cells.specs.Cell.{Cell}
 use Rattle.rules.specs.Scan.{centreAt, depthAt}
 use Rattle.boxes.specs.declared.Box.{Box}
 use Rattle.boxes.specs.Box.{inBox}

@@ -5,8 +5,8 @@ use boxes::Screen;
 ghost use mathlib.Core.Path.{_≡_};
 ghost use Prim.Native.Nat.{ℕ, _+_, _*_, _≤_, _<_};
 ghost use Rattle.questions.specs.Laws.{Sized};
-ghost use Rattle.layers.specs.Layer.{layer};
-ghost use Rattle.layers.specs.Steps.{Spans};
+ghost use Rattle.cells.specs.Layer.{layer};
+ghost use Rattle.cells.specs.Steps.{Spans};
 ghost use Rattle.pixels.specs.Pixel.{centre};
 ghost use Rattle.rules.specs.Draw.{painted};
 ghost use Rattle.boxes.specs.Answer.{screenOf};
@@ -34,7 +34,7 @@ fn draw_pixel(
     let qx = pixels::centre(ix);
     let qy = pixels::centre(iy);
     let z = lanes::depth_at(s, qx, qy);
-    blocks::put(pix2tri, pix2depth, iy * w + ix, z, number);
+    cells::put(pix2tri, pix2depth, iy * w + ix, z, number);
 }
 
 // Columns x0 to x1 of row iy, one by one.

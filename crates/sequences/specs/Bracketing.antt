@@ -9,11 +9,11 @@ use lib.Dec.{eqb}
 use lib.ListN.{length}
 use Rattle.questions.specs.Questions.{answer}
 use Rattle.offers.specs.Offer.{pick}
-use Rattle.layers.specs.Cell as cell
-use Rattle.layers.specs.Layer.{Layer, at}
-use Rattle.layers.specs.Steps.{Spans}
+use Rattle.cells.specs.Cell as cell
+use Rattle.cells.specs.Layer.{Layer, at}
+use Rattle.cells.specs.Steps.{Spans}
 use Rattle.layers.specs.Calls.{clearCode, clearing, joinCode, joining}
-use Rattle.layers.specs.Laws.Pixels.{spans-pixelwise}
+use Rattle.cells.specs.Laws.Pixels.{spans-pixelwise}
 use Rattle.meshes.specs.Mesh.{Face, facesOf}
 use Rattle.rules.specs.Offers.{Scene, brought}
 use Rattle.rules.specs.Draw.{drawn}

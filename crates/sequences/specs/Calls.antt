@@ -5,7 +5,7 @@ use mathlib.Core.List.{List, [], _∷_}
 use lib.Dec.{eqb}
 use lib.Ieee.{Float}
 use Rattle.questions.specs.Questions.{Outcome}
-use Rattle.layers.specs.Layer.{Layer, layer}
+use Rattle.cells.specs.Layer.{Layer, layer}
 use Rattle.layers.specs.Calls.{clearing, joining}
 use Rattle.rules.specs.Calls.{draws}
 

@@ -8,8 +8,8 @@ use Rattle.questions.specs.Questions.{empty}
 use Rattle.offers.specs.Offers.{Shows}
 use Rattle.offers.specs.Thinning.{keptFrom, renumber}
 use Rattle.offers.specs.Laws.Greatest.{first-of-greatest}
-use Rattle.layers.specs.Layer.{Layer, at}
-use Rattle.layers.specs.Steps.{Spans}
+use Rattle.cells.specs.Layer.{Layer, at}
+use Rattle.cells.specs.Steps.{Spans}
 use Rattle.meshes.specs.Mesh.{Face, facesOf}
 use Rattle.rules.specs.Offers.{Scene, brought, offers}
 use Rattle.rules.specs.Calls.{drawCode, draws}

@@ -7,7 +7,7 @@ use Rattle.questions.specs.Questions.{Outcome, empty, firstNo, sizes, groups, n
 use Rattle.offers.specs.Offer.{lowest, offered, pick, exceeds}
 use Rattle.offers.specs.Offers as any
 use Rattle.offers.specs.Offers.{numbered}
-use Rattle.layers.specs.Layer.{Layer, layer}
+use Rattle.cells.specs.Layer.{Layer, layer}
 use Rattle.geometry.specs.Formula.{cross2, areas, total, overTotal, blend, row, over}
 use Rattle.geometry.specs.Leaf.{weighed, weighedAll, cornerWeights, divided, project}
 use Rattle.meshes.specs.Mesh.{facesOf, vertexAt}

@@ -12,7 +12,7 @@ use Rattle.offers.specs.Thinning.{keptFrom}
 use Rattle.offers.specs.Laws.Greatest.{first-of-greatest}
 use Rattle.offers.specs.Laws.Joins.{won}
 use Rattle.offers.specs.Laws.Removal.{with-greatest}
-use Rattle.layers.specs.Cell.{Cell}
+use Rattle.cells.specs.Cell.{Cell}
 use Rattle.layers.specs.Calls.{clearing, clearCode, joining, joinCode}
 use Rattle.meshes.specs.Mesh.{Face, face, facesOf}
 use Rattle.rules.specs.Offers.{Scene, scene, brought, offers, Holds}

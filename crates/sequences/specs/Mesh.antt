@@ -13,7 +13,7 @@ use Rattle.questions.specs.Questions.{sizes, groups, slices, numbers, allBelow,
 use Rattle.questions.specs.Laws.{accepted, grouped, whole}
 use Rattle.offers.specs.Thinning.{keptFrom}
 use Rattle.offers.specs.Laws.Thinning.{kept-length}
-use Rattle.layers.specs.Layer.{Layer}
+use Rattle.cells.specs.Layer.{Layer}
 use Rattle.layers.specs.Calls.{exactLayer}
 use Rattle.meshes.specs.Mesh.{Face, facesOf, faceAt}
 use Rattle.rules.specs.Offers.{Scene}

@@ -5,7 +5,7 @@ use mathlib.Core.Bool.{cond}
 use mathlib.Core.List.{List, [], _∷_, _++_}
 use lib.Dec.{eqb}
 use lib.ListN.{length, take, getD}
-use Rattle.layers.specs.Steps.{Spans}
+use Rattle.cells.specs.Steps.{Spans}
 use Rattle.meshes.specs.Mesh.{Face}
 use Rattle.rules.specs.Offers.{Scene}
 use Rattle.sequences.specs.Calls.{Store, layerOf, whole, Call, clear, draw, join, outcomeOf, after}

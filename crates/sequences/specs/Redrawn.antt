@@ -18,9 +18,9 @@ use Rattle.offers.specs.Laws.Joins.{won}
 use Rattle.offers.specs.Laws.Removal.{is-there, was-brought}
 use Rattle.offers.specs.Laws.Renaming.{renamed, numbered-payload}
 use Rattle.offers.specs.Laws.Faces.{brought-number}
-use Rattle.layers.specs.Cell.{Cell}
-use Rattle.layers.specs.Layer.{Layer, layer}
-use Rattle.layers.specs.Laws.Pixels.{pixelwise-same}
+use Rattle.cells.specs.Cell.{Cell}
+use Rattle.cells.specs.Layer.{Layer, layer}
+use Rattle.cells.specs.Laws.Pixels.{pixelwise-same}
 use Rattle.meshes.specs.Mesh.{Face}
 use Rattle.meshes.specs.View.{entryAt}
 use Rattle.rules.specs.Offers.{Scene, brings, brought, offers, Holds}

@@ -9,8 +9,8 @@ use lib.Dec.{eqb, lit<}
 use lib.ListN.{length, take, drop, take-append-drop}
 use Rattle.questions.specs.Questions.{Outcome, outcome, empty}
 use Rattle.offers.specs.Thinning.{keptFrom, keptBefore, renumber}
-use Rattle.layers.specs.Layer.{Layer, layer}
-use Rattle.layers.specs.Steps.{Spans}
+use Rattle.cells.specs.Layer.{Layer, layer}
+use Rattle.cells.specs.Steps.{Spans}
 use Rattle.layers.specs.Calls.{clearing, joining}
 use Rattle.meshes.specs.Mesh.{Face, facesOf}
 use Rattle.rules.specs.Offers.{Scene}

@@ -9,13 +9,13 @@ use lib.Dec.{eqb}
 use lib.ListN.{length, length-append, take, drop}
 use lib.Seq.{take-add, drop-drop, take-length, drop-cons}
 use Rattle.questions.specs.Questions.{firstNo, answer, sizes, groups, exact, numbers, allBelow, mostCount, empty}
-use Rattle.layers.specs.Cell as cell
+use Rattle.cells.specs.Cell as cell
 use Rattle.offers.specs.Offer.{pick, offered}
-use Rattle.layers.specs.Cell.{Cell}
-use Rattle.layers.specs.Layer.{Layer, layer, at, pixelwise}
-use Rattle.layers.specs.Steps.{Spans}
+use Rattle.cells.specs.Cell.{Cell}
+use Rattle.cells.specs.Layer.{Layer, layer, at, pixelwise}
+use Rattle.cells.specs.Steps.{Spans}
 use Rattle.layers.specs.Calls.{exactLayer, clearCode, clearing, joinCode, joining}
-use Rattle.layers.specs.Laws.Pixels.{pixelwise-same, at-pixelwise, spans-pixelwise}
+use Rattle.cells.specs.Laws.Pixels.{pixelwise-same, at-pixelwise, spans-pixelwise}
 use Rattle.meshes.specs.Mesh.{Face, facesOf}
 use Rattle.rules.specs.Offers.{Scene, brings, brought}
 use Rattle.rules.specs.Draw.{painted, drawn}

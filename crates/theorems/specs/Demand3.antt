@@ -18,7 +18,7 @@ use lib.Ieee.{Float, nan}
 use lib.ListN.{length, getD}
 use Rattle.questions.specs.Questions.{allBelow, empty}
 use Rattle.offers.specs.Thinning.{renumber}
-use Rattle.layers.specs.Layer.{Layer}
+use Rattle.cells.specs.Layer.{Layer}
 use Rattle.meshes.specs.View.{viewOf}
 use Rattle.views.specs.Alike.{Alike}
 use Rattle.sequences.specs.Plan.{flat}

@@ -8,8 +8,8 @@ use mathlib.Core.List.{[], _∷_}
 use lib.Ieee.{nan, binary32, ofBits}
 use Rattle.questions.specs.Questions.{empty, outcome}
 use Rattle.offers.specs.Offer.{lowest}
-use Rattle.layers.specs.Layer.{layer}
-use Rattle.floats.specs.Root.{root}
+use Rattle.cells.specs.Layer.{layer}
+use Rattle.roots.specs.Root.{root}
 use Rattle.sequences.specs.Example.{zero, one, minusOne, quarter, corners, four, blank, drawing}
 use Rattle.theorems.specs.Examples.Values.{word, showing}
 use Rattle.theorems.specs.Examples.Edges.{typed, typedAs}

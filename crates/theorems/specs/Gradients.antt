@@ -38,9 +38,9 @@ use Rattle.crossings.specs.Crossing.{skipped, coefficient0, coefficient1, gPix}
 use Rattle.scattering.specs.Scattering.{toVertex, toFace, toPoint, spread}
 use Rattle.shares.specs.Shares.{Share, share, alone, crossing, crossingOf, intersection, received, between, sharesAt}
 use Rattle.shares.specs.Additions.{additionsOf, pairAdditions}
-use Rattle.edge_bwd.specs.Additions.{edgeDown, axisAdditions, passAdditions}
+use Rattle.axis_bwd.specs.Additions.{edgeDown, axisAdditions}
 use Rattle.edge_bwd.specs.Calls as edges
-use Rattle.edge_bwd.specs.Calls.{edgeBwd}
+use Rattle.edge_bwd.specs.Calls.{passAdditions, edgeBwd}
 use Rattle.edge_bwd.specs.Laws as edges-laws
 
 -- v is no corner of f

@@ -12,7 +12,7 @@ use Rattle.geometry.specs.Formula.{pointFrom}
 use Rattle.questions.specs.Questions.{namesFace}
 use Rattle.meshes.specs.Mesh.{Face, faceAt, cornersAt}
 use Rattle.meshes.specs.View.{named}
-use Rattle.jacobians.specs.Normal.{unitNormal}
+use Rattle.normals.specs.Normal.{unitNormal}
 use Rattle.inside.specs.Inside.{projectFace, projects}
 
 -- the point that the weights b make of the face's own corners

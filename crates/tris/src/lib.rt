@@ -146,7 +146,7 @@ pub fn unormal_pix(t: Tri) -> Vec3
 {
     let p = t.node2pixxy;
     let z = t.node2pixz;
-    jacobians::unit_normal(
+    normals::unit_normal(
         Vec3 {
             x: p[0],
             y: p[1],

@@ -7,8 +7,8 @@ use lib.ListN.{length, length-drop, take, drop}
 use lib.Seq.{take-length}
 use Rattle.questions.specs.Questions.{Outcome, outcome, mostCount}
 use Rattle.questions.specs.Laws.{grouped}
-use Rattle.layers.specs.Layer.{Layer}
-use Rattle.layers.specs.Steps.{Spans}
+use Rattle.cells.specs.Layer.{Layer}
+use Rattle.cells.specs.Steps.{Spans}
 use Rattle.layers.specs.Calls.{clearing, joining}
 use Rattle.rules.specs.Offers.{scene}
 use Rattle.rules.specs.Calls.{drawCode, draws}

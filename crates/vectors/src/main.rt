@@ -12,10 +12,10 @@ const LINE_END: u8 = 10;
 fn answer(tool: u32, high: u32, low: u32) -> u64 {
     let pattern = (high as u64) * 0x1_0000_0000 + low as u64;
     if tool == 1 {
-        return words::of_f32(floats::sqrt_f32(words::f32_of(low))) as u64;
+        return words::of_f32(roots::sqrt_f32(words::f32_of(low))) as u64;
     }
     if tool == 2 {
-        return words::of_f64(floats::sqrt_f64(words::f64_of(pattern)));
+        return words::of_f64(roots::sqrt_f64(words::f64_of(pattern)));
     }
     if tool == 3 {
         return words::of_f32(floats::narrow_f64_to_f32(words::f64_of(pattern))) as u64;

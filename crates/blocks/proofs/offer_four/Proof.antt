@@ -1,7 +1,7 @@
 -- `blocks::offer_four`: four steps, or nothing to bring.
 use borrow.Author.Needs.{needs}
 use Rattle.lists.specs.Laws.Tests.{so}
-use Rattle.layers.specs.Layer.{layer}
+use Rattle.cells.specs.Layer.{layer}
 use Rattle.blocks.proofs.Steps.{four-kept}
 use Rattle.blocks.proofs.offer_four.Statement.{statement}
 use Rattle.blocks.proofs.offer_four.Tie as tie

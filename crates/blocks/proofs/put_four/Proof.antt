@@ -2,7 +2,7 @@
 use borrow.Author.Needs.{needs}
 use native.Mathlib.Omega.{arith}
 use lib.ListN.{length-set}
-use Rattle.layers.specs.Layer.{layer}
+use Rattle.cells.specs.Layer.{layer}
 use Rattle.blocks.proofs.Steps.{four-stored}
 use Rattle.blocks.proofs.put_four.Statement.{statement}
 use Rattle.blocks.proofs.put_four.Tie as tie

@@ -1,7 +1,7 @@
 -- `pix2tri_by_rasterization`: refused with the layer as it was, or drawn.
 use borrow.Author.Needs.{needs}
 use mathlib.Core.Path.{sym, _∙_}
-use Rattle.layers.specs.Layer.{layer}
+use Rattle.cells.specs.Layer.{layer}
 use Rattle.drawing.proofs.Accepted.{draw-accepted, draw-refused, draw-done}
 use Rattle.drawing.proofs.pix2tri_by_rasterization.Statement.{statement}
 use Rattle.drawing.proofs.pix2tri_by_rasterization.Tie as tie

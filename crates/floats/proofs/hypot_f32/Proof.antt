@@ -2,7 +2,7 @@
 use mathlib.Core.Path.{_≡_, ap, ap₂, _∙_}
 use borrow.Author.Needs.{needs}
 use lib.Ieee.{Float, binary64, add, mul}
-use Rattle.floats.specs.Root.{root}
+use Rattle.roots.specs.Root.{root}
 use Rattle.floats.specs.Narrow.{narrow, hypotOf}
 use Rattle.floats.proofs.hypot_f32.Statement.{statement}
 use Rattle.floats.proofs.hypot_f32.Tie as tie

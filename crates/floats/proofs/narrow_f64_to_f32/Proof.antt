@@ -8,7 +8,7 @@ use lib.Pow.{pow-pos}
 use lib.Ieee.{nan, inf, binary32, binary64, units, fits, toBits}
 use lib.Ieee.Compare.{differs-from-itself}
 use Rattle.floats.specs.Narrow.{narrow}
-use Rattle.floats.proofs.Fields.{number, zero-over-zero}
+use Rattle.roots.specs.Laws.Nan.{number, zero-over-zero}
 use Rattle.floats.proofs.Values.{low-value, mid-value, top-value}
 use Rattle.floats.proofs.Narrow.{narrow-value}
 use Rattle.floats.proofs.narrow_f64_to_f32.Statement.{statement}

@@ -5,7 +5,7 @@ use Prim.Native.Nat.{ℕ, _+_, _-_}
 use native.Mathlib.Omega.{arith}
 use borrow.Author.Needs.{needs}
 use lib.Ieee.{binary32, units}
-use Rattle.floats.specs.Steps.{Packable}
+use Rattle.roots.specs.Steps.{Packable}
 use Rattle.floats.proofs.Narrow.{narrow-units, narrow-packable}
 use Rattle.floats.proofs.narrow_units.Statement.{statement}
 use Rattle.floats.proofs.narrow_units.Tie as tie

@@ -7,7 +7,7 @@ use native.Mathlib.Nat.{lt-of-lt-of-le}
 use borrow.Author.Needs.{needs}
 use lib.Dec.{T, lit≤}
 use lib.Ieee.{binary32}
-use Rattle.floats.proofs.Pattern.{Packed, packed}
+use Rattle.roots.specs.Laws.Pattern.{Packed, packed}
 use Rattle.floats.proofs.pack_f32.Statement.{statement}
 use Rattle.floats.proofs.pack_f32.Tie as tie
 

@@ -7,8 +7,8 @@ use lib.ListN.{length}
 use Rattle.questions.specs.Questions.{sizes, exact}
 use Rattle.lists.specs.Laws.Tests.{both}
 use Rattle.questions.specs.Laws.{Sized, sized, accepted, exactly}
-use Rattle.layers.specs.Layer.{Layer}
-use Rattle.layers.specs.Steps.{Spans}
+use Rattle.cells.specs.Layer.{Layer}
+use Rattle.cells.specs.Steps.{Spans}
 use Rattle.layers.specs.Calls.{exactLayer, clearCode, joinCode}
 
 pub exact-spans : (w h : ℕ) (l : Layer) → exactLayer w h l ≡ true → Spans l (w * h)

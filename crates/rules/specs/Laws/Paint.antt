@@ -3,12 +3,12 @@ use Prim.Native.Nat.{ℕ, _<_}
 use mathlib.Core.Path.{_≡_, sym, ap, _∙_}
 use mathlib.Core.List.{List, [], _++_}
 use Rattle.offers.specs.Offer.{offered}
-use Rattle.layers.specs.Cell.{Cell}
-use Rattle.layers.specs.Layer.{Layer, at}
-use Rattle.layers.specs.Steps.{Spans}
-use Rattle.layers.specs.Laws.Pixels.{at-pixelwise, spans-pixelwise}
+use Rattle.cells.specs.Cell.{Cell}
+use Rattle.cells.specs.Layer.{Layer, at}
+use Rattle.cells.specs.Steps.{Spans}
+use Rattle.cells.specs.Laws.Pixels.{at-pixelwise, spans-pixelwise}
 use Rattle.offers.specs.Laws.Greatest.{offered-append}
-use Rattle.layers.specs.Laws.Cells.{same-layer}
+use Rattle.cells.specs.Laws.Cells.{same-layer}
 use Rattle.rules.specs.Draw.{painted}
 
 pub at-painted : (os : ℕ → List Cell) (n : ℕ) (l : Layer) (p : ℕ) → p < n → at (painted os n l) p ≡ offered (at l p) (os p)

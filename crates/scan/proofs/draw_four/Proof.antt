@@ -3,8 +3,8 @@ use borrow.Author.Needs.{needs}
 use Prim.Native.Nat.{_+_}
 use native.Mathlib.Omega.{arith}
 use Rattle.questions.specs.Laws.{area}
-use Rattle.layers.specs.Layer.{layer}
-use Rattle.layers.specs.Laws.Pixels.{spans-reaches}
+use Rattle.cells.specs.Layer.{layer}
+use Rattle.cells.specs.Laws.Pixels.{spans-reaches}
 use Rattle.pixels.specs.Laws.{number-below}
 use Rattle.boxes.specs.Answer.{screenOf}
 use Rattle.scan.proofs.Centres.{on-1, on-2, on-3}

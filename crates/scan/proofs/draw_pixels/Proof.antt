@@ -2,7 +2,7 @@
 use Prim.Native.Nat.{ℕ, _+_, _*_, _-_}
 use mathlib.Core.Path.{sym, _∙_}
 use native.Mathlib.Omega.{arith}
-use Rattle.layers.specs.Layer.{layer}
+use Rattle.cells.specs.Layer.{layer}
 use Rattle.boxes.specs.Answer.{screenOf}
 use Rattle.boxes.specs.Box.{box}
 use Rattle.scan.specs.Cells.{boxCells}

@@ -1,7 +1,7 @@
 -- `scan::draw_row`: blocks of four, and what is left beside the edge.
 use borrow.Author.Needs.{needs}
 use native.Mathlib.Omega.{arith}
-use Rattle.layers.specs.Layer.{layer}
+use Rattle.cells.specs.Layer.{layer}
 use Rattle.boxes.specs.Answer.{screenOf}
 use Rattle.scan.proofs.Turns.{spans-is}
 use Rattle.scan.proofs.Blocks.{rest-done, blocks-done}

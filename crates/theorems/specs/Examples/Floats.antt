@@ -5,7 +5,7 @@ use mathlib.Core.Bool.{true}
 use mathlib.Core.List.{[], _∷_, map}
 use lib.IntN.{pos}
 use lib.Ieee.{Format, binary32, binary64, nan, inf, fin, ofBits, toBits}
-use Rattle.floats.specs.Root.{root}
+use Rattle.roots.specs.Root.{root}
 use Rattle.floats.specs.Narrow.{narrow, hypotOf}
 
 unfoldable pub rootBits : Format → ℕ → ℕ

@@ -1,7 +1,7 @@
 use mathlib.Core.Path.{sym}
 use native.Mathlib.Omega.{arith}
 use lib.Seq.{length-take-le}
-use Rattle.layers.specs.Layer.{layer}
+use Rattle.cells.specs.Layer.{layer}
 use Rattle.two_runs.proofs.Runs.{few-faces, runs-joined}
 use borrow.Author.Needs.{needs}
 use Rattle.two_runs.proofs.draw_in_two_runs.Statement.{statement}

@@ -1,4 +1,4 @@
-use Rattle.layers.specs.Layer.{layer}
+use Rattle.cells.specs.Layer.{layer}
 use Rattle.two_runs.proofs.Runs.{run-drawn}
 use borrow.Author.Needs.{needs}
 use Rattle.two_runs.proofs.draw_run.Statement.{statement}

@@ -1,0 +1,2 @@
+-- laws that the proof cites
+pub mod Turns

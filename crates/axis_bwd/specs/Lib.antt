@@ -1,0 +1,2 @@
+-- 01, "Edges": what the pairs of an axis add.
+pub mod Additions

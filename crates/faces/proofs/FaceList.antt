@@ -1,0 +1,114 @@
+-- The faces of a list, drawn one after the other.
+use Prim.Native.Nat.{ℕ, zero, suc, _+_, _*_, _/_, _≤_, _<_}
+use mathlib.Core.Path.{_≡_, refl, sym, ap, _∙_}
+use mathlib.Core.List.{List, [], _∷_, _++_}
+use native.Mathlib.Nat.{not-suc-le-zero}
+use native.Mathlib.Numerals.{add-one}
+use native.Mathlib.Omega.{arith}
+use lib.ListN.{length, getD, drop, drop-of-length-le}
+use lib.Seq.{drop-cons}
+use lib.Ieee.{Float}
+use Rattle.geometry.specs.Vector.{Vec3}
+use Rattle.offers.specs.Offers as any
+use Rattle.cells.specs.Layer.{Layer}
+use Rattle.cells.specs.Steps.{Spans}
+use Rattle.meshes.specs.Mesh.{Face, face, faceAt, facesOf, vertexAt}
+use Rattle.rules.specs.Piece.{pieces}
+use Rattle.rules.specs.Offers.{Scene, scene, facePieces, brings, brought}
+use Rattle.rules.specs.Draw.{painted, drawn}
+use Rattle.rules.specs.Laws.Paint.{spans-painted, painted-none, painted-same, painted-append}
+use Rattle.raster.specs.Face.{piecesCells}
+
+pub length-faces : (tri : List ℕ) → length (facesOf tri) ≡ length tri / 3
+unfolding facesOf
+length-faces [] = refl
+length-faces (a ∷ []) = refl
+length-faces (a ∷ b ∷ []) = refl
+length-faces (a ∷ b ∷ c ∷ tri) = omega (arith, length-faces tri)
+
+shift : (a b c : ℕ) (tri : List ℕ) (j k : ℕ) → suc (suc (suc j)) ≡ k → getD tri j 0 ≡ getD (a ∷ b ∷ c ∷ tri) k 0
+shift a b c tri j k e = ap (λ (i : ℕ). getD (a ∷ b ∷ c ∷ tri) i 0) e
+
+face-get : (tri : List ℕ) (i : ℕ) (z : Face) → i < length tri / 3 → getD (facesOf tri) i z ≡ faceAt tri i
+unfolding facesOf faceAt
+face-get [] i z h = absurd (not-suc-le-zero h)
+face-get (a ∷ []) i z h = absurd (not-suc-le-zero h)
+face-get (a ∷ b ∷ []) i z h = absurd (not-suc-le-zero h)
+face-get (a ∷ b ∷ c ∷ tri) zero z h = refl
+face-get (a ∷ b ∷ c ∷ tri) (suc i) z h =
+    rw (
+      ← (shift a b c tri (3 * i) (3 * suc i) (omega arith)),
+      ← (shift a b c tri (3 * i + 1) (3 * suc i + 1) (omega arith)),
+      ← (shift a b c tri (3 * i + 2) (3 * suc i + 2) (omega arith)),
+    )
+    (face-get tri i z (omega arith))
+
+-- the face at i and those after it
+pub faces-from : (tri : List ℕ) (i : ℕ) → i < length tri / 3 → drop i (facesOf tri) ≡ faceAt tri i ∷ drop (i + 1) (facesOf tri)
+faces-from tri i h =
+    rw add-one
+    (drop-cons (facesOf tri) i (face 0 0 0) (omega (arith, length-faces tri))
+    ∙ ap (λ (f : Face). f ∷ drop (suc i) (facesOf tri)) (face-get tri i (face 0 0 0) h))
+
+module _ (sc : Scene) where
+  -- what is still to be brought, with the face at hand
+  rest-is : (f : Face) (fs : List Face) (k p : ℕ) → piecesCells (sc .width) (sc .height) (facePieces sc f) k p ++ brought sc fs (k + 1) p ≡ brought sc (f ∷ fs) k p
+  unfolding brought any.brought piecesCells brings
+  rest-is f fs k p = rw add-one
+
+  pub faces-done : (cur : Layer) (k : ℕ) → Spans cur (sc .width * sc .height) → painted (brought sc [] k) (sc .width * sc .height) cur ≡ cur
+  unfolding brought any.brought
+  faces-done cur k whole = painted-none (sc .width * sc .height) cur (brought sc [] k) whole (λ p m. refl)
+
+  -- a face drawn: the others are left
+  pub face-done :
+      (f : Face) (fs : List Face) (k : ℕ) (cur new : Layer)
+      → new ≡ painted (piecesCells (sc .width) (sc .height) (facePieces sc f) k) (sc .width * sc .height) cur
+      → painted (brought sc fs (k + 1)) (sc .width * sc .height) new ≡ painted (brought sc (f ∷ fs) k) (sc .width * sc .height) cur
+  face-done f fs k cur new e =
+      ap (painted (brought sc fs (k + 1)) (sc .width * sc .height)) e
+      ∙ painted-append (sc .width * sc .height) cur (piecesCells (sc .width) (sc .height) (facePieces sc f) k) (brought sc fs (k + 1))
+      ∙ painted-same (sc .width * sc .height) cur (λ p. piecesCells (sc .width) (sc .height) (facePieces sc f) k p ++ brought sc fs (k + 1) p) (brought sc (f ∷ fs) k) (λ p m. rest-is f fs k p)
+
+-- Before face i: it has number k, and what it and the faces after it bring is all that is left to paint.
+pub record Left (sc : Scene) (fs : List Face) (first : ℕ) (l cur : Layer) (i k : ℕ) : Type 0 where
+  pub number : k ≡ first + i
+  pub spans : Spans cur (sc .width * sc .height)
+  pub is : painted (brought sc (drop i fs) k) (sc .width * sc .height) cur ≡ drawn sc fs first l
+
+pub left-all : (sc : Scene) (fs : List Face) (first : ℕ) (l : Layer) → Spans l (sc .width * sc .height) → Left sc fs first l l 0 first
+unfolding drawn
+left-all sc fs first l s = record { number = omega arith; spans = s; is = refl }
+
+pub left-less :
+    (sc : Scene) (tri : List ℕ) (first : ℕ) (l cur new : Layer) (i k : ℕ)
+    → i < length tri / 3
+    → Left sc (facesOf tri) first l cur i k
+    → new ≡ painted (piecesCells (sc .width) (sc .height) (facePieces sc (faceAt tri i)) k) (sc .width * sc .height) cur
+    → Left sc (facesOf tri) first l new (i + 1) (k + 1)
+left-less sc tri first l cur new i k h t e =
+    record {
+      number = omega (arith, t .number);
+      spans = rw e (spans-painted (piecesCells (sc .width) (sc .height) (facePieces sc (faceAt tri i)) k) (sc .width * sc .height) cur);
+      is =
+          face-done sc (faceAt tri i) (drop (i + 1) (facesOf tri)) k cur new e
+          ∙ ap (λ (fs : List Face). painted (brought sc fs k) (sc .width * sc .height) cur) (sym (faces-from tri i h))
+          ∙ t .is;
+    }
+
+pub left-none : (sc : Scene) (tri : List ℕ) (first : ℕ) (l cur : Layer) (i k : ℕ) → length tri / 3 ≤ i → Left sc (facesOf tri) first l cur i k → cur ≡ drawn sc (facesOf tri) first l
+left-none sc tri first l cur i k h t =
+    sym (faces-done sc cur k (t .spans))
+    ∙ ap (λ (fs : List Face). painted (brought sc fs k) (sc .width * sc .height) cur) (sym (drop-of-length-le (facesOf tri) {i = i} (omega (arith, length-faces tri))))
+    ∙ t .is
+
+-- the face's corners as the code has read them
+pub face-read :
+    (m xyz : List Float) (w h : ℕ) (tri : List ℕ) (i k : ℕ) (cur new : Layer) (a b c : Vec3 Float)
+    → a ≡ vertexAt xyz (getD tri (3 * i) 0)
+    → b ≡ vertexAt xyz (getD tri (3 * i + 1) 0)
+    → c ≡ vertexAt xyz (getD tri (3 * i + 2) 0)
+    → new ≡ painted (piecesCells w h (pieces m a b c) k) (w * h) cur
+    → new ≡ painted (piecesCells w h (facePieces (scene m xyz w h) (faceAt tri i)) k) (w * h) cur
+unfolding facePieces faceAt
+face-read m xyz w h tri i k cur new a b c ea eb ec e = rw (← ea, ← eb, ← ec) e

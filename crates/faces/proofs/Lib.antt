@@ -1,0 +1,2 @@
+-- Lemmas of the loop over the faces.
+pub mod FaceList
