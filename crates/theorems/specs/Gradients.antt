@@ -26,7 +26,8 @@ use Rattle.pixel_rays.specs.Rays.{Image, rayOf}
 use Rattle.vertex_values.specs.Pass.{Vertices}
 use Rattle.pixel_bwd.specs.Additions.{toCorners, toXyz, toVal, pixelXyz, pixelVal, Sums}
 use Rattle.values_bwd.specs.Bwd as values
-use Rattle.values_bwd.specs.Bwd.{xyzAt, valAt, summedOver, interpolatingBwd}
+use Rattle.values_bwd.specs.Bwd.{interpolatingBwd}
+use Rattle.image_bwd.specs.Summed.{xyzAt, valAt, summedOver}
 use Rattle.values_bwd.specs.Laws as values-laws
 use Rattle.pixels.specs.Pixel.{centreOf}
 use Rattle.pixels.specs.Edge.{Axis, hedge, vedge, Edge}

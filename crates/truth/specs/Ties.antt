@@ -20,8 +20,8 @@ use Rattle.vertex_values.specs.Pass.{Vertices}
 use Rattle.values.specs.Interpolate as Interpolate
 use Rattle.pixel_bwd.specs.Additions as Additions
 use Rattle.pixel_bwd.specs.Additions.{sums}
-use Rattle.values_bwd.specs.Bwd as Bwd
-use Rattle.values_bwd.specs.Bwd.{summedOver}
+use Rattle.image_bwd.specs.Summed as Summed
+use Rattle.image_bwd.specs.Summed.{summedOver}
 use Rattle.tris.specs.Tri.{pointOn}
 use Rattle.scattering.specs.Scattering.{toVertex, toFace, toPoint, spread}
 use Rattle.truth.specs.Pixel.{valueAt, incoming, backward, gradientsAt, toValue}
@@ -83,11 +83,11 @@ module _ (g : Image) (s : Vertices) (v : View) (dldw : List Float) where
   -- what it leaves in the two accumulators after n pixels
   pub sums-at-floats : (n : ℕ) (old : Additions.Sums)
       → summedOver g s v dldw 0 n old ≡ sums (summed floats nan (old .xyz) (imageXyz floats scene n)) (summed floats nan (old .val) (imageVal floats scene n))
-  unfolding summedOver Bwd.xyzAt Bwd.valAt
+  unfolding summedOver Summed.xyzAt Summed.valAt
   sums-at-floats n old =
       ap₂ sums
-      (ap (Sums.summed (old .xyz)) (turns-given (Bwd.xyzAt g s v dldw) (xyzAt floats scene) (λ p. xyz-given (v .at p) (rayOf g p) _) (span 0 n)) ∙ summed-given (old .xyz) _)
-      (ap (Sums.summed (old .val)) (turns-given (Bwd.valAt g s v dldw) (valAt floats scene) (λ p. val-given (v .at p) (rayOf g p) _) (span 0 n)) ∙ summed-given (old .val) _)
+      (ap (Sums.summed (old .xyz)) (turns-given (Summed.xyzAt g s v dldw) (xyzAt floats scene) (λ p. xyz-given (v .at p) (rayOf g p) _) (span 0 n)) ∙ summed-given (old .xyz) _)
+      (ap (Sums.summed (old .val)) (turns-given (Summed.valAt g s v dldw) (valAt floats scene) (λ p. val-given (v .at p) (rayOf g p) _) (span 0 n)) ∙ summed-given (old .val) _)
 
 -- ---- `bwd`
 

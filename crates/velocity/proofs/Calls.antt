@@ -10,7 +10,7 @@ use Rattle.lists.specs.Laws.Tests.{both}
 use Rattle.questions.specs.Laws.{Sized, sized, grouped, whole, exactly, accepted, call-refused, call-done}
 use Rattle.lists.specs.Lists.{tabulate}
 use Rattle.pixels.specs.Edge.{hedge, vedge, edgeCount}
-use Rattle.velocity.specs.Grid.{velocityAt}
+use Rattle.velocity.specs.Velocity.{velocityAt}
 use Rattle.velocity.specs.Calls.{velocityCode, velocities}
 
 -- what an accepted call knows

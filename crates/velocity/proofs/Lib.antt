@@ -1,4 +1,3 @@
 -- laws that the proofs share
-pub mod Floor
 pub mod Places
 pub mod Calls

@@ -1,5 +1,5 @@
 -- What stands at the two places of a vertex.
-use Prim.Native.Nat.{ℕ, zero, suc, _+_, _/_, _%_, _<_}
+use Prim.Native.Nat.{ℕ, _+_, _/_, _%_, _<_}
 use mathlib.Core.Path.{_≡_, refl, sym, ap, ap₂}
 use mathlib.Core.List.{List}
 use native.Mathlib.Omega.{arith}
@@ -7,15 +7,10 @@ use borrow.Author.Tests.{eq-eqb, ne-eqb}
 use lib.Ieee.{Float, nan}
 use lib.ListN.{getD, set, length}
 use Rattle.lists.specs.Laws.Tables.{stored, stored-more}
-use Rattle.geometry.specs.Arith.{floats}
 use Rattle.geometry.specs.Vector.{vec2}
 use Rattle.pixels.specs.Edge.{hedge, vedge}
-use Rattle.velocity.specs.Grid.{offset, sample, pointAt, velocityAt}
-
-pub along : (n : ℕ) → (n ≡ 0 → ⊥) → floats .one ≡ offset n
-unfolding offset
-along zero h = absurd (h refl)
-along (suc n) h = refl
+use Rattle.grids.specs.Grid.{sample}
+use Rattle.velocity.specs.Velocity.{pointAt, velocityAt}
 
 module _ (w h : ℕ) (hs vs xy : List Float) (i : ℕ) (even : i % 2 ≡ 0) where
   point : (v : ℕ) → v ≡ i / 2 → pointAt xy v ≡ vec2 (getD xy i nan) (getD xy (i + 1) nan)

@@ -7,7 +7,7 @@ use lib.Ieee.{Float}
 use Rattle.questions.specs.Questions.{ask, firstNo, Outcome, answer, sizes, groups, exact, mostCount}
 use Rattle.lists.specs.Lists.{tabulate}
 use Rattle.pixels.specs.Edge.{hedge, vedge, edgeCount}
-use Rattle.velocity.specs.Grid.{velocityAt}
+use Rattle.velocity.specs.Velocity.{velocityAt}
 
 unfoldable pub velocityCode : ℕ → ℕ → List Float → List Float → List Float → List Float → ℕ
 velocityCode w h hedge2vy vedge2vx xy velo =

@@ -1,5 +1,3 @@
 -- 01, "Edges": `interpolate_from_edges`, velocities of vertices from those on the edges.
-pub mod Cell
-pub mod Grid
+pub mod Velocity
 pub mod Calls
-pub mod Steps

@@ -1,4 +1,4 @@
-// Words of 32 bits as text, for programs that run stored cases: eight lower-case hexadecimal digits,
+// Words of 32 bits as text, for programs that run vectors and print patterns: eight lower-case hexadecimal digits,
 // and one byte after them, a space or a line end. And the floats that words stand for: the language
 // has one NaN and no patterns of it, so every NaN is read as that one and written as 7fc00000.
 
@@ -6,8 +6,6 @@ ghost use mathlib.Core.Path.{_≡_};
 ghost use Prim.Native.Nat.{_<_};
 ghost use lib.Ieee.{binary32, binary64, ofBits};
 ghost use Rattle.words.specs.Patterns.{patternOf};
-
-pub mod slices;
 
 const STDIN: i32 = 0;
 
@@ -32,11 +30,6 @@ pub fn read() -> Word {
 pub fn write(word: u32, after: u8) {
     io::print_hex(STDOUT, word as u64, 8);
     let end = [after];
-    io::write_all(STDOUT, &end);
-}
-
-pub fn end_line() {
-    let end = [10u8];
     io::write_all(STDOUT, &end);
 }
 

@@ -1,4 +1,4 @@
-//! Writes the stored cases of crates/replay: `stdin`, the arguments of each call, and `stdout`, its answer, by the
+//! Writes the stored cases rust/tests/stored/layers: `asked`, the arguments of each call, and `answered`, its answer, by the
 //! listed Rust where a scene is accepted and by 01's words (`expected`) elsewhere. Run at the root of the
 //! repository by `cargo run --release --offline --manifest-path rust/Cargo.toml -p comparison --example answers`.
 //! A number after `--` gives another count of scenes than 300.
@@ -14,7 +14,7 @@ fn main() -> std::io::Result<()> {
     let mut cases = comparison::stored::Cases::default();
     layers::draws(&mut cases, count);
     layers::clears_and_joins(&mut cases, count / 8);
-    cases.write("replay")
+    cases.write("layers")
 }
 
 #[cfg(listed)]
@@ -25,7 +25,7 @@ mod layers {
     use comparison::scene::{scene, Scene};
     use comparison::stored::{answer_floats, answer_numbers, floats, line, numbers, Cases};
 
-    /// As many words as the program has room for in a slice.
+    /// The longest slice that is stored.
     const ROOM: usize = 64;
     /// Images beyond this would only make the files long.
     const PIXELS: usize = 30;

@@ -1,4 +1,4 @@
-//! Writes the stored cases of crates/replay_passes: `stdin`, the arguments of each call, and `stdout`, its answer,
+//! Writes the stored cases rust/tests/stored/passes: `asked`, the arguments of each call, and `answered`, its answer,
 //! by the listed Rust where they are accepted, and by 01's questions (`expected`) elsewhere. Run at the root of the
 //! repository by `cargo run --release --offline --manifest-path rust/Cargo.toml -p comparison --example
 //! pass_answers`. A number after `--` gives another count for each call than 80.
@@ -14,7 +14,7 @@ fn main() -> std::io::Result<()> {
     let mut cases = comparison::stored::Cases::default();
     passes::over_a_map(&mut cases, count);
     passes::from_edges(&mut cases, count);
-    cases.write("replay_passes")
+    cases.write("passes")
 }
 
 #[cfg(listed)]
@@ -27,7 +27,7 @@ mod passes {
     use comparison::reference;
     use comparison::stored::{answer_bytes, answer_floats, bytes, floats, line, numbers, Cases};
 
-    /// As many words as the program has room for in a slice.
+    /// The longest slice that is stored.
     const ROOM: usize = 128;
     /// Images beyond this would only make the files long.
     const PIXELS: usize = 20;

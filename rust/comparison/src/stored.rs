@@ -1,7 +1,7 @@
-//! Stored cases as words of text, as the crate `words` reads and writes them: eight hexadecimal digits and one
-//! byte after them. A slice is asked as its length and its words, and answered as its words, a space after each.
+//! Stored cases as words of text, of eight hexadecimal digits each. A slice is asked as its length and its words, and
+//! answered as its words, on a line of its own.
 
-/// What is asked of a program, and what it must answer.
+/// What is asked, and what must be answered.
 #[derive(Default)]
 pub struct Cases {
     pub asked: String,
@@ -59,10 +59,10 @@ impl Cases {
         self.answered.extend(answered.iter().map(String::as_str));
     }
 
-    /// Writes the files of a program's crate, at the root of the repository.
-    pub fn write(self, program: &str) -> std::io::Result<()> {
-        std::fs::write(format!("crates/{program}/stdin"), self.asked)?;
-        std::fs::write(format!("crates/{program}/stdout"), self.answered)
+    /// Writes the files of that name among the package's tests, at the root of the repository.
+    pub fn write(self, name: &str) -> std::io::Result<()> {
+        std::fs::write(format!("rust/tests/stored/{name}.asked"), self.asked)?;
+        std::fs::write(format!("rust/tests/stored/{name}.answered"), self.answered)
     }
 }
 

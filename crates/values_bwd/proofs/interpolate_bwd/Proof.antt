@@ -11,8 +11,8 @@ returns c =
     let asked = c .before in
     refused _ _ _ _ _ (sums _ _) _ (bwd-code _ _ _ _ _ (sums _ _) (asked .before .sums-ok .ensures) (asked .pass-code .ensures)) (c .if1 .taken)
 
-image-bwd-requires : tie.Need-image-bwd-requires
-image-bwd-requires c κs =
+add-image-requires : tie.Need-add-image-requires
+add-image-requires c κs =
     let tested = c .before .before in
     let asked = tested .before in
     let s = asked .before .before .before .before .before .before .before .before .before in
@@ -26,7 +26,7 @@ returns-2 c =
     let called = c .before .before .before .before in
     let tested = called .before .before .before in
     let asked = tested .before in
-    done _ _ _ _ _ (sums _ _) _ (sums _ _) (bwd-code _ _ _ _ _ (sums _ _) (asked .before .sums-ok .ensures) (asked .pass-code .ensures)) (tested .if1 .left) (called .image-bwd .ensures)
+    done _ _ _ _ _ (sums _ _) _ (sums _ _) (bwd-code _ _ _ _ _ (sums _ _) (asked .before .sums-ok .ensures) (asked .pass-code .ensures)) (tested .if1 .left) (called .add-image .ensures)
 
 pub interpolate-bwd-spec : {M : Type 1} → statement M
 interpolate-bwd-spec =
@@ -35,7 +35,7 @@ interpolate-bwd-spec =
     (λ c κs. search needs)
     (λ c κs. search needs)
     returns
-    image-bwd-requires
+    add-image-requires
     (λ c. search needs)
     (λ c. search needs)
     returns-2)

@@ -4,7 +4,7 @@ use native.Mathlib.Omega.{arith}
 use lib.ListN.{length, length-set}
 use borrow.Author.Needs.{needs}
 use Rattle.lists.specs.Laws.Tables.{stored, stored-none, stored-all}
-use Rattle.velocity.specs.Grid.{velocityAt}
+use Rattle.velocity.specs.Velocity.{velocityAt}
 use Rattle.velocity.proofs.Places.{x-place, y-place, two-more}
 use Rattle.velocity.proofs.fill_velocities.Statement.{statement}
 use Rattle.velocity.proofs.fill_velocities.Tie as tie
