@@ -6,7 +6,7 @@ use Rattle.meshes.specs.Sums.{Addition}
 use Rattle.pixels.specs.Edge.{Axis, Edge, edgeFrom, rows, edgeCount}
 use Rattle.pairs.specs.Pairs.{EdgeView}
 use Rattle.pairs.specs.Gradient.{PixelValues}
-use Rattle.shares.specs.Additions.{pairAdditions}
+use Rattle.share_rules.specs.Additions.{pairAdditions}
 
 -- pair number i, column by column from the top, as the Rust's loops run
 unfoldable pub edgeDown : Axis → ℕ → ℕ → Edge

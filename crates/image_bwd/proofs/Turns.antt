@@ -12,7 +12,8 @@ use Rattle.meshes.specs.Sums.{summed}
 use Rattle.pixel_rays.specs.Rays.{Image, image}
 use Rattle.pixel_rays.specs.Laws.{pixel-seen}
 use Rattle.vertex_values.specs.Pass.{Vertices}
-use Rattle.pixel_bwd.specs.Additions.{incomingAt, pixelXyz, pixelVal, Sums, sums}
+use Rattle.pixel_gradients.specs.Gradients.{incomingAt}
+use Rattle.pixel_bwd.specs.Additions.{pixelXyz, pixelVal, Sums, sums}
 use Rattle.image_bwd.specs.Summed.{xyzAt, valAt, summedOver}
 use Rattle.image_bwd.specs.Laws.{over-one, over-more, over-ended}
 

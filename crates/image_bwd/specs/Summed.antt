@@ -7,7 +7,8 @@ use Rattle.meshes.specs.View.{View}
 use Rattle.meshes.specs.Sums.{Addition, summed}
 use Rattle.pixel_rays.specs.Rays.{Image, rayOf}
 use Rattle.vertex_values.specs.Pass.{Vertices}
-use Rattle.pixel_bwd.specs.Additions.{incomingAt, pixelXyz, pixelVal, Sums, sums}
+use Rattle.pixel_gradients.specs.Gradients.{incomingAt}
+use Rattle.pixel_bwd.specs.Additions.{pixelXyz, pixelVal, Sums, sums}
 
 -- what pixel p adds to `dldw_vtx2xyz` and to `dldw_vtx2val`
 unfoldable pub xyzAt : Image → Vertices → View → List Float → ℕ → List Addition

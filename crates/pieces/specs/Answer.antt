@@ -1,4 +1,4 @@
--- What the code's structs, enums and arrays of corners stand for: 01's values for each of their cases.
+-- What the code's enum and arrays of corners stand for: 01's values for each of their cases.
 use mathlib.Core.List.{List, []}
 use lib.ListN.{getD}
 use Prim.Native.Nat.{ℕ}
@@ -6,12 +6,9 @@ use lib.Ieee.{Float, nan}
 use Rattle.geometry.specs.Vector.{Vec3, vec3, triangle}
 use Rattle.rules.specs.Piece
 use Rattle.rules.specs.Piece.{whole, onePiece, twoPieces}
-use Rattle.pieces.specs.declared.Corner as code
+use Rattle.corners.specs.Answer.{cornerOf}
 use Rattle.pieces.specs.declared.Pieces.{Pieces}
 use Rattle.pieces.specs.declared.Pieces.the-variants.{Nothing, Whole, One, Two}
-
-abbrev pub cornerOf : code.Corner → Piece.Corner Float
-cornerOf a = record { p = vec3 (a .x) (a .y) (a .z); hw = a .hw; c = a .c }
 
 -- none, the face whole, one piece or two
 abbrev pub piecesOf : Pieces → List Piece.Piece

@@ -4,20 +4,13 @@ use mathlib.Core.Path.{_≡_, refl, ap₂}
 use mathlib.Core.Option.{Option, none, some}
 use mathlib.Core.List.{List}
 use lib.Ieee.{Float}
-use Rattle.geometry.specs.Arith.{floats}
-use Rattle.geometry.specs.Vector.{Vec3, Weights, Triangle}
 use Rattle.rays.specs.Space.{Ray}
-use Rattle.rays_bwd.specs.Backward.{Gradients, planeBackward}
-use Rattle.meshes.specs.Mesh.{Face, cornersAt}
+use Rattle.rays_bwd.specs.Backward.{Gradients}
+use Rattle.meshes.specs.Mesh.{Face}
 use Rattle.meshes.specs.Sums.{summed}
 use Rattle.vertex_values.specs.Pass.{Vertices}
-use Rattle.pixel_bwd.specs.Additions.{incoming, backward, gradientsAt, toXyz, toVal, pixelXyz, pixelVal, sums}
-
-pub gradients-are : (s : Vertices) (f : Face) (r : Ray Float) (d : ℕ → Float) (b : Weights Float) (p : Triangle (Vec3 Float)) (g : Gradients Float)
-    → b ≡ incoming s f d → p ≡ cornersAt (s .xyz) f → g ≡ planeBackward floats p r (floats .zero) (floats .sub (b .b1) (b .b0)) (floats .sub (b .b2) (b .b0))
-    → g ≡ gradientsAt s f r d
-unfolding gradientsAt backward
-gradients-are s f r d b p g eb ep e = rw (← eb, ← ep) e
+use Rattle.pixel_gradients.specs.Gradients.{gradientsAt}
+use Rattle.pixel_bwd.specs.Additions.{toXyz, toVal, pixelXyz, pixelVal, sums}
 
 module _ (s : Vertices) (o : Option Face) (r : Option (Ray Float)) (d : ℕ → Float) (x v : List Float) where
   pub nothing-empty : o ≡ none → sums x v ≡ sums (summed x (pixelXyz s o r d)) (summed v (pixelVal s o r d))

@@ -1,5 +1,4 @@
 -- 01, "Values and their backward pass": what one pixel adds in `interpolate_bwd`.
-pub mod Gather
 pub mod Additions
 -- proved of the definitions above
 pub mod Laws

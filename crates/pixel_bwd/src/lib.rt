@@ -3,64 +3,21 @@ ghost use mathlib.Core.Path.{_≡_};
 ghost use mathlib.Core.Bool.{true};
 ghost use mathlib.Core.List.{[], _∷_};
 ghost use Prim.Native.Nat.{_+_, _*_, _/_, _≤_, _<_};
-ghost use lib.Ieee.{nan};
-ghost use lib.ListN.{length, getD};
-ghost use Rattle.geometry.specs.Arith.{floats};
-ghost use Rattle.geometry.specs.Vector.{weights};
+ghost use lib.ListN.{length};
 ghost use Rattle.questions.specs.Questions.{namesFace};
 ghost use Rattle.rays.specs.Answer as ofRays;
 ghost use Rattle.rays.specs.Pixel.{rayAt};
-ghost use Rattle.rays_bwd.specs.Answer.{gradientsOf};
 ghost use Rattle.meshes.specs.Sound.{SoundMesh};
 ghost use Rattle.meshes.specs.Sums.{addition, summed};
 ghost use Rattle.meshes.specs.View.{named};
 ghost use Rattle.pixel_rays.specs.Answer.{faceOf};
-ghost use Rattle.pixel_rays.specs.Laws.{Among};
 ghost use Rattle.vertex_values.specs.Pass.{vertices};
-ghost use Rattle.pixel_bwd.specs.Gather.{gathered};
-ghost use Rattle.pixel_bwd.specs.Additions.{incomingAt, toXyz, toVal, gradientsAt, pixelXyz, pixelVal, sums};
+ghost use Rattle.pixel_gradients.specs.Gradients.{incomingAt};
+ghost use Rattle.pixel_bwd.specs.Additions.{toXyz, toVal, pixelXyz, pixelVal, sums};
 use pixel_rays::face::Face;
 use rays::Corners;
 use rays::PixelRay;
-use rays::Ray;
 use rays::Weights;
-use rays_bwd::Gradients;
-
-// The gradients of the three weights; the corners' channels begin at a0, a1 and a2, the incoming ones at `at`.
-fn gather(
-    vtx2val: &[f32],
-    a0: usize,
-    a1: usize,
-    a2: usize,
-    dldw: &[f32],
-    at: usize,
-    c: usize,
-) -> Weights
-    requires { ⌜ a0 + c ≤ length (now vtx2val) ⌝ }
-    requires { ⌜ a1 + c ≤ length (now vtx2val) ⌝ }
-    requires { ⌜ a2 + c ≤ length (now vtx2val) ⌝ }
-    requires { ⌜ at + c ≤ length (now dldw) ⌝ }
-    ensures { λ r. ⌜ ofRays.weightsOf r ≡ weights (gathered floats (λ j. getD (now (vtx2val .entry)) (a0 + j) nan) (incomingAt (now (dldw .entry)) at) c)
-        (gathered floats (λ j. getD (now (vtx2val .entry)) (a1 + j) nan) (incomingAt (now (dldw .entry)) at) c)
-        (gathered floats (λ j. getD (now (vtx2val .entry)) (a2 + j) nan) (incomingAt (now (dldw .entry)) at) c) ⌝ }
-{
-    let mut b0 = 0.0;
-    let mut b1 = 0.0;
-    let mut b2 = 0.0;
-    let mut j = 0;
-    while j < c {
-        let d = dldw[at + j];
-        b0 = b0 + vtx2val[a0 + j] * d;
-        b1 = b1 + vtx2val[a1 + j] * d;
-        b2 = b2 + vtx2val[a2 + j] * d;
-        j += 1;
-    }
-    Weights {
-        b0: b0,
-        b1: b1,
-        b2: b2,
-    }
-}
 
 // One addition for each corner.
 fn add_three(sums: &mut [f32], a0: usize, a1: usize, a2: usize, x0: f32, x1: f32, x2: f32)
@@ -114,26 +71,6 @@ fn add_values(dval: &mut [f32], f: Face, b: Weights, dldw: &[f32], at: usize, c:
     }
 }
 
-// The gradients at a pixel that shows the face f.
-fn gradients_at(
-    vtx2xyz: &[f32],
-    c: usize,
-    vtx2val: &[f32],
-    f: Face,
-    r: Ray,
-    dldw: &[f32],
-    at: usize,
-) -> Gradients
-    requires { ⌜ Among (length (now vtx2xyz) / 3) (faceOf f) ⌝ }
-    requires { ⌜ length (now vtx2val) ≡ length (now vtx2xyz) / 3 * c ⌝ }
-    requires { ⌜ at + c ≤ length (now dldw) ⌝ }
-    ensures { λ g. ⌜ gradientsOf g ≡ gradientsAt (vertices (now (vtx2xyz .entry)) c (now (vtx2val .entry))) (faceOf f) (ofRays.rayOf r) (incomingAt (now (dldw .entry)) at) ⌝ }
-{
-    let b = gather(vtx2val, f.v0 * c, f.v1 * c, f.v2 * c, dldw, at, c);
-    let p = pixel_rays::face::corners(vtx2xyz, f);
-    rays_bwd::plane_backward(p, r, 0.0, b.b1 - b.b0, b.b2 - b.b0)
-}
-
 // What one pixel adds: its map entry, (x, y) of its ray, and where its channels begin.
 pub fn add_pixel(
     dxyz: &mut [f32],
@@ -169,7 +106,7 @@ pub fn add_pixel(
         return;
     };
     let f = pixel_rays::face::face_at(tri2vtx, entry as usize);
-    let g = gradients_at(vtx2xyz, c, vtx2val, f, r, dldw, at);
+    let g = pixel_gradients::gradients_at(vtx2xyz, c, vtx2val, f, r, dldw, at);
     let to = g.to;
     let bc = g.bc;
     add_shares(dxyz, f, to);

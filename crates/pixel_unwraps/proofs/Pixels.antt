@@ -27,7 +27,7 @@ use Rattle.pairs.specs.Steps.{Within}
 use Rattle.pairs.specs.Laws.{within-at, all-projected}
 use Rattle.tris.specs.Tri.{unormal}
 use Rattle.crossings.specs.Crossing.{skipped, coefficient0, coefficient1, gPix}
-use Rattle.shares.specs.Shares.{Share, share, alone, crossing, crossingOf, intersection, received, between, sharesAt}
+use Rattle.share_rules.specs.Shares.{Share, share, alone, crossing, crossingOf, intersection, received, between, sharesAt}
 use Rattle.unwraps.specs.Unwraps.{weighable, weighableAll, unwraps, allUnwraps, bothUnwrap}
 use Rattle.pixel_unwraps.specs.Steps.{LikeNext, LikePrevious, LikeAllNeighbours, weighsOf, WeighsOrInner}
 

@@ -13,8 +13,8 @@ use Rattle.meshes.specs.Sums.{Addition}
 use Rattle.tris.specs.Tri.{unormal, TriOf}
 use Rattle.crossings.specs.Crossing.{skipped, coefficient0, coefficient1, gPix}
 use Rattle.scattering.specs.Scattering.{given}
-use Rattle.shares.specs.Shares.{Share, share, crossing}
-use Rattle.shares.specs.Additions.{additionsOf}
+use Rattle.share_rules.specs.Shares.{Share, share, crossing}
+use Rattle.share_rules.specs.Additions.{additionsOf}
 use Rattle.shares.specs.Steps.{givenBoth, givenCrossing}
 
 -- a mesh is as sound for another list of the same length

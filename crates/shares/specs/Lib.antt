@@ -1,6 +1,2 @@
--- 01, "Edges": what one pair of pixels gives the faces they show.
-pub mod Shares
-pub mod Additions
+-- What the steps that add a pair's shares promise.
 pub mod Steps
--- proved of the definitions above
-pub mod Laws

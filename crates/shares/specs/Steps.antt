@@ -1,21 +1,14 @@
 -- What the steps promise.
 use Prim.Native.Nat.{ℕ}
 use mathlib.Core.Bool.{cond}
-use mathlib.Core.Option.{some}
-use mathlib.Core.List.{List, [], _∷_, _++_}
+use mathlib.Core.List.{List, [], _++_}
 use lib.Ieee.{Float}
 use Rattle.geometry.specs.Vector.{Vec2, Vec3, Projected, Triangle}
 use Rattle.meshes.specs.Mesh.{Face}
 use Rattle.meshes.specs.Sums.{Addition}
-use Rattle.inside.specs.Inside.{allInside, contains}
 use Rattle.tris.specs.Tri.{unormal}
-use Rattle.crossings.specs.Crossing.{along, skipped, coefficient0, coefficient1, gPix}
+use Rattle.crossings.specs.Crossing.{skipped, coefficient0, coefficient1, gPix}
 use Rattle.scattering.specs.Scattering.{given}
-use Rattle.shares.specs.Shares.{Share, share}
-
--- the share of a face beside an empty pixel, of its own pixel's centre and the empty one's: none where the face contains that too
-unfoldable pub besideEmpty : ℕ → List Float → List Float → Face → Vec2 Float → Vec2 Float → List Share
-besideEmpty axis m xyz f own other = cond (contains allInside m xyz (some f) other) [] (share f own (along axis) ∷ [])
 
 -- what an intersection's two shares add, of the unit normals n0 and n1
 unfoldable pub givenBoth : List Float → ℕ → Float → Face → Face → Triangle (Vec3 Float) → Triangle (Vec3 Float) → Triangle (Projected Float) → Triangle (Projected Float)

@@ -17,9 +17,10 @@ ghost use Rattle.pairs.specs.Gradient.{pixelValues};
 ghost use Rattle.pairs.specs.Steps.{SoundValues, Within};
 ghost use Rattle.tris.specs.Answer.{cornersIn, projectedIn};
 ghost use Rattle.tris.specs.Tri.{Projects, Shows};
-ghost use Rattle.shares.specs.Shares.{between};
-ghost use Rattle.shares.specs.Additions.{additionsOf, pairAdditions};
-ghost use Rattle.shares.specs.Steps.{besideEmpty, givenCrossing};
+ghost use Rattle.share_rules.specs.Shares.{between};
+ghost use Rattle.share_rules.specs.Additions.{additionsOf, pairAdditions};
+ghost use Rattle.share_rules.specs.Steps.{besideEmpty};
+ghost use Rattle.shares.specs.Steps.{givenCrossing};
 use geometry::Vec2;
 use tris::Tri;
 

@@ -37,8 +37,8 @@ use Rattle.pairs.specs.Gradient.{PixelValues, dldr}
 use Rattle.tris.specs.Tri.{pointOn, unormal}
 use Rattle.crossings.specs.Crossing.{skipped, coefficient0, coefficient1, gPix}
 use Rattle.scattering.specs.Scattering.{toVertex, toFace, toPoint, spread}
-use Rattle.shares.specs.Shares.{Share, share, alone, crossing, crossingOf, intersection, received, between, sharesAt}
-use Rattle.shares.specs.Additions.{additionsOf, pairAdditions}
+use Rattle.share_rules.specs.Shares.{Share, share, alone, crossing, crossingOf, intersection, received, between, sharesAt}
+use Rattle.share_rules.specs.Additions.{additionsOf, pairAdditions}
 use Rattle.axis_bwd.specs.Additions.{edgeDown, axisAdditions}
 use Rattle.edge_bwd.specs.Calls as edges
 use Rattle.edge_bwd.specs.Calls.{passAdditions, edgeBwd}

@@ -12,7 +12,7 @@ use Rattle.rays.specs.Space.{Ray, ray, minus3, dot3, cross3, scaled3}
 use Rattle.rays.specs.Plane.{normal}
 use Rattle.rays_bwd.specs.Backward.{framed, frameOf, meetsU, meetsV, weighted, gradientOn, gradient, shares, shared, backwardOn, planeBackward}
 use Rattle.meshes.specs.Mesh.{Face, face}
-use Rattle.pixel_bwd.specs.Gather.{gathered}
+use Rattle.pixel_gradients.specs.Gather.{gathered}
 use Rattle.truth.specs.Laws.{Invertible}
 use Rattle.truth.specs.Solve.{same3, _∷₃_}
 use Rattle.truth.specs.Rationals.{ℚ, over, alike, rationals, rational-laws, divides-by}

@@ -8,7 +8,7 @@ use Rattle.geometry.specs.Formula.{sumOf, blend}
 use Rattle.rays.specs.Space.{Ray, minus3, dot3, cross3, along3}
 use Rattle.rays.specs.Plane.{normal, distance, hit, weight, weightsAt, weightsOn, planeWeights}
 use Rattle.rays_bwd.specs.Backward.{frameOf, framed, meetsU, meetsV, weighted, shared, backwardOn, planeBackward}
-use Rattle.pixel_bwd.specs.Gather.{gathered}
+use Rattle.pixel_gradients.specs.Gather.{gathered}
 use Rattle.truth.specs.Laws.{Laws, Invertible}
 use Rattle.truth.specs.Solve.{Expr, var, :0, _:+_, _:-_, _:*_, exprs, from, eval, Equal, by-ring}
 use Rattle.truth.specs.Dual.{Dual, dual, duals, still, dual-laws, dual-invertible}

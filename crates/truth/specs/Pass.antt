@@ -10,7 +10,7 @@ use Rattle.geometry.specs.Vector.{Vec3, vec3, Weights, Triangle, triangle}
 use Rattle.geometry.specs.Formula.{sumOf}
 use Rattle.rays.specs.Space.{Ray, dot3}
 use Rattle.meshes.specs.Mesh.{Face}
-use Rattle.pixel_bwd.specs.Gather.{gathered}
+use Rattle.pixel_gradients.specs.Gather.{gathered}
 use Rattle.truth.specs.Laws.{Laws, Invertible}
 use Rattle.truth.specs.Ring.{add-add}
 use Rattle.truth.specs.Solve.{same3, var, :0, _:+_, _:*_, _∷₃_, var3, exprs, from, eval, Equal, by-ring}

@@ -6,7 +6,7 @@ use Rattle.geometry.specs.Formula.{blend}
 use Rattle.rays.specs.Space.{Ray}
 use Rattle.rays.specs.Plane.{planeWeights}
 use Rattle.rays_bwd.specs.Backward.{Gradients, planeBackward}
-use Rattle.pixel_bwd.specs.Gather.{gathered}
+use Rattle.pixel_gradients.specs.Gather.{gathered}
 
 module _ {A : Type 0} (R : Arith A) where
   open Arith R using (add as _⊕_, sub as _⊖_, mul as _⊗_, zero)

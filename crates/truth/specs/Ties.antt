@@ -17,7 +17,8 @@ use Rattle.meshes.specs.Sums as Sums
 use Rattle.lists.specs.Lists.{span}
 use Rattle.pixel_rays.specs.Rays.{Image, rayOf}
 use Rattle.vertex_values.specs.Pass.{Vertices}
-use Rattle.values.specs.Interpolate as Interpolate
+use Rattle.pixel_values.specs.Pixel as PixelValues
+use Rattle.pixel_gradients.specs.Gradients as Gradients
 use Rattle.pixel_bwd.specs.Additions as Additions
 use Rattle.pixel_bwd.specs.Additions.{sums}
 use Rattle.image_bwd.specs.Summed as Summed
@@ -45,8 +46,8 @@ sceneOf g s v dldw =
 -- what it writes at channel j of a pixel that shows f
 pub value-at-floats : (g : Image) (s : Vertices) (v : View) (dldw : List Float) (f : Face) (r : Ray Float) (j : ℕ) (old : Float)
     → (let c = sceneOf g s v dldw in
-    Interpolate.valueAt s (some f) (some r) j old ≡ valueAt floats (cornersAt (c .xyz) f) r (valuesAt (c .val) (c .channels) f) j)
-unfolding Interpolate.valueAt Interpolate.blendOf Mesh.cornersAt Mesh.vertexAt valueAt
+    PixelValues.valueAt s (some f) (some r) j old ≡ valueAt floats (cornersAt (c .xyz) f) r (valuesAt (c .val) (c .channels) f) j)
+unfolding PixelValues.valueAt PixelValues.blendOf Mesh.cornersAt Mesh.vertexAt valueAt
 value-at-floats g s v dldw f r j old = refl
 
 -- ---- `interpolate_bwd`
@@ -69,13 +70,13 @@ module _ (g : Image) (s : Vertices) (v : View) (dldw : List Float) where
   scene = sceneOf g s v dldw
 
   xyz-given : (o : Option Face) (q : Option (Ray Float)) (d : ℕ → Float) → Additions.pixelXyz s o q d ≡ map given (pixelXyz floats scene o q d)
-  unfolding Additions.pixelXyz Additions.toXyz Additions.gradientsAt Additions.backward Additions.incoming Mesh.cornersAt Mesh.vertexAt pixelXyz toXyz gradientsAt backward incoming
+  unfolding Additions.pixelXyz Additions.toXyz Gradients.gradientsAt Gradients.backward Gradients.incoming Mesh.cornersAt Mesh.vertexAt pixelXyz toXyz gradientsAt backward incoming
   xyz-given (some f) (some r) d = refl
   xyz-given (some f) none d = refl
   xyz-given none q d = refl
 
   val-given : (o : Option Face) (q : Option (Ray Float)) (d : ℕ → Float) → Additions.pixelVal s o q d ≡ map given (pixelVal floats scene o q d)
-  unfolding Additions.pixelVal Additions.toVal Additions.gradientsAt Additions.backward Additions.incoming Mesh.cornersAt Mesh.vertexAt pixelVal toVal toValue gradientsAt backward incoming
+  unfolding Additions.pixelVal Additions.toVal Gradients.gradientsAt Gradients.backward Gradients.incoming Mesh.cornersAt Mesh.vertexAt pixelVal toVal toValue gradientsAt backward incoming
   val-given (some f) (some r) d = turns-given _ _ (λ j. refl) (span 0 (s .channels))
   val-given (some f) none d = refl
   val-given none q d = refl

@@ -12,8 +12,8 @@ use Rattle.tris.specs.Weights.{worldIn}
 use Rattle.tris.specs.Tri.{unormal, TriOf}
 use Rattle.tris.specs.Laws.{world-is}
 use Rattle.crossings.specs.Crossing.{along, skipped, coefficient0, coefficient1, gPix}
-use Rattle.shares.specs.Shares.{Share, share, crossing}
-use Rattle.shares.specs.Steps.{besideEmpty}
+use Rattle.share_rules.specs.Shares.{Share, share, crossing}
+use Rattle.share_rules.specs.Steps.{besideEmpty}
 use Rattle.unwraps.specs.Unwraps.{weighable, weighableAll}
 use Rattle.unwraps.specs.Steps.{crossingAnswered}
 

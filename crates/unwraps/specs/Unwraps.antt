@@ -8,7 +8,7 @@ use Rattle.pixels.specs.Edge.{Axis, hedge, vedge, Edge, edgeCount, edgeAt}
 use Rattle.inside.specs.Inside.{projectFace, present}
 use Rattle.pairs.specs.Pairs.{EdgeView}
 use Rattle.tris.specs.Weights.{worldIn}
-use Rattle.shares.specs.Shares.{Share, sharesAt}
+use Rattle.share_rules.specs.Shares.{Share, sharesAt}
 
 -- for a share
 unfoldable pub weighable : List Float → List Float → Share → Bool

@@ -15,7 +15,7 @@ ghost use Rattle.pairs.specs.Steps.{Within};
 ghost use Rattle.tris.specs.Weights.{worldIn};
 ghost use Rattle.tris.specs.Answer.{projectedIn};
 ghost use Rattle.tris.specs.Tri.{Projects, Shows};
-ghost use Rattle.shares.specs.Shares.{between};
+ghost use Rattle.share_rules.specs.Shares.{between};
 ghost use Rattle.unwraps.specs.Unwraps.{weighableAll, unwraps, allUnwraps, bothUnwrap};
 ghost use Rattle.unwraps.specs.Steps.{crossingAnswered};
 use geometry::Vec2;

@@ -8,8 +8,8 @@ use Rattle.pixels.specs.Edge.{axis, Edge}
 use Rattle.pixels.specs.Laws.{edges-few}
 use Rattle.pairs.specs.Pairs.{edgeView}
 use Rattle.pairs.specs.Gradient.{pixelValues}
-use Rattle.shares.specs.Additions.{pairAdditions}
-use Rattle.shares.specs.Laws.{answered-at}
+use Rattle.share_rules.specs.Additions.{pairAdditions}
+use Rattle.share_rules.specs.Laws.{answered-at}
 use Rattle.axis_bwd.specs.Additions.{edgeDown, axisAdditions}
 use Rattle.axis_bwd.proofs.Turns.{down-edge, down-within, Summing, summing-none, summing-more, summing-all}
 use Rattle.axis_bwd.proofs.scatter_axis.Statement.{statement}

@@ -3,7 +3,7 @@ use borrow.Author.Needs.{needs}
 use native.Mathlib.Omega.{arith}
 use borrow.Author.Tests.{eq-eqb, ne-eqb}
 use Rattle.rules.specs.Piece.{mixed, onePiece, twoPieces}
-use Rattle.pieces.specs.Answer.{cornerOf}
+use Rattle.corners.specs.Answer.{cornerOf}
 use Rattle.pieces.proofs.Tests.{bit-le}
 use Rattle.pieces.proofs.mixed.Statement.{statement}
 use Rattle.pieces.proofs.mixed.Tie as tie

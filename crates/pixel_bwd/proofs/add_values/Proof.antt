@@ -6,8 +6,8 @@ use lib.ListN.{length}
 use Rattle.geometry.specs.Arith.{floats}
 use Rattle.meshes.specs.Sums.{addition, summed}
 use Rattle.lists.specs.Lists.{span}
+use Rattle.pixel_gradients.specs.Gradients.{incomingAt}
 use Rattle.pixel_bwd.specs.Additions.{toVal}
-use Rattle.pixel_bwd.specs.Additions.{incomingAt}
 use Rattle.meshes.specs.Laws.{turns-none, turns-more, turns-ended}
 use Rattle.pixel_bwd.proofs.add_values.Statement.{statement}
 use Rattle.pixel_bwd.proofs.add_values.Tie as tie

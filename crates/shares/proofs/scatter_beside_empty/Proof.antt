@@ -4,7 +4,7 @@ use Rattle.geometry.specs.Answer.{point2}
 use Rattle.meshes.specs.Sums.{summed}
 use Rattle.crossings.specs.Crossing.{along}
 use Rattle.tris.specs.Laws.{inside-is}
-use Rattle.shares.specs.Steps.{besideEmpty}
+use Rattle.share_rules.specs.Steps.{besideEmpty}
 use Rattle.shares.proofs.Cases.{one-adds, sound-again}
 use borrow.Author.Needs.{needs}
 use Rattle.shares.proofs.scatter_beside_empty.Statement.{statement}

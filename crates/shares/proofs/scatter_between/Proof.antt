@@ -6,7 +6,7 @@ use Rattle.meshes.specs.Mesh.{faceAt}
 use Rattle.meshes.specs.Sums.{summed}
 use Rattle.tris.specs.Laws.{inside-is}
 use Rattle.crossings.specs.Crossing.{along}
-use Rattle.shares.specs.Laws.{both-contain, second-contains, first-contains, neither-contains}
+use Rattle.share_rules.specs.Laws.{both-contain, second-contains, first-contains, neither-contains}
 use Rattle.shares.proofs.Cases.{one-adds, crossing-adds, sound-again}
 use borrow.Author.Needs.{needs}
 use Rattle.shares.proofs.scatter_between.Statement.{statement}

@@ -3,8 +3,8 @@ use native.Mathlib.Omega.{arith}
 use Rattle.questions.specs.Laws.{area}
 use Rattle.meshes.specs.Sums.{summed}
 use Rattle.pixels.specs.Edge.{axis}
-use Rattle.shares.specs.Additions.{pairAdditions}
-use Rattle.shares.specs.Laws.{shares-equal, shares-unequal, both-shown}
+use Rattle.share_rules.specs.Additions.{pairAdditions}
+use Rattle.share_rules.specs.Laws.{shares-equal, shares-unequal, both-shown}
 use borrow.Author.Needs.{needs}
 use Rattle.shares.proofs.scatter_pair.Statement.{statement}
 use Rattle.shares.proofs.scatter_pair.Tie as tie

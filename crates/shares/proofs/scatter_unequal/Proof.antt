@@ -2,7 +2,7 @@ use mathlib.Core.List.{flatMap}
 use Rattle.geometry.specs.Answer.{point2}
 use Rattle.meshes.specs.Mesh.{faceAt}
 use Rattle.meshes.specs.Sums.{summed}
-use Rattle.shares.specs.Laws.{both-empty, after-empty, before-empty}
+use Rattle.share_rules.specs.Laws.{both-empty, after-empty, before-empty}
 use Rattle.meshes.specs.Laws.{named-none, named-some}
 use Rattle.tris.specs.Laws.{shows-projects}
 use borrow.Author.Needs.{needs}

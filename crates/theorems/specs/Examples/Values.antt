@@ -16,7 +16,8 @@ use Rattle.meshes.specs.View.{named}
 use Rattle.pixel_rays.specs.Rays.{image, rayOf, answered, raysAnswer}
 use Rattle.vertex_values.specs.Pass.{vertices}
 use Rattle.vertex_values.specs.Questions.{exactCounts, passCode}
-use Rattle.values.specs.Interpolate.{blendOf, valueAt, valueIn, interpolated, interpolateCode, interpolating}
+use Rattle.pixel_values.specs.Pixel.{blendOf, valueAt}
+use Rattle.values.specs.Interpolate.{valueIn, interpolated, interpolateCode, interpolating}
 use Rattle.sequences.specs.Example.{zero, one, quarter, matrix, corners}
 
 abbrev pub word : ℕ → Float

@@ -9,7 +9,7 @@ use Rattle.pixels.specs.Laws.{edges-few, walked-edge, in-row, in-column}
 use Rattle.pairs.specs.Pairs.{edgeView}
 use Rattle.pairs.specs.Laws.{within-at}
 use Rattle.pairs.proofs.Walks.{Asking, asking-none, asking-more, asking-all}
-use Rattle.shares.specs.Laws.{answered-at}
+use Rattle.share_rules.specs.Laws.{answered-at}
 use Rattle.unwraps.specs.Unwraps.{unwraps, allUnwraps}
 use Rattle.unwraps.proofs.all_ok.Statement.{statement}
 use Rattle.unwraps.proofs.all_ok.Tie as tie

@@ -4,7 +4,7 @@ use Rattle.geometry.specs.Answer.{point2}
 use Rattle.meshes.specs.Mesh.{faceAt}
 use Rattle.crossings.specs.Crossing.{along}
 use Rattle.tris.specs.Laws.{inside-is}
-use Rattle.shares.specs.Laws.{both-contain, second-contains, first-contains, neither-contains}
+use Rattle.share_rules.specs.Laws.{both-contain, second-contains, first-contains, neither-contains}
 use Rattle.unwraps.specs.Unwraps.{weighableAll}
 use Rattle.unwraps.proofs.Cases.{one-weighs, crossing-weighs}
 use borrow.Author.Needs.{needs}

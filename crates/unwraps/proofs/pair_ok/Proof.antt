@@ -1,5 +1,5 @@
 use Rattle.pixels.specs.Edge.{axis}
-use Rattle.shares.specs.Laws.{shares-equal, shares-unequal, both-shown}
+use Rattle.share_rules.specs.Laws.{shares-equal, shares-unequal, both-shown}
 use Rattle.unwraps.specs.Unwraps.{unwraps, weighableAll}
 use borrow.Author.Needs.{needs}
 use Rattle.unwraps.proofs.pair_ok.Statement.{statement}

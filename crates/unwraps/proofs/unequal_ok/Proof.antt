@@ -1,6 +1,6 @@
 use Rattle.geometry.specs.Answer.{point2}
 use Rattle.meshes.specs.Mesh.{faceAt}
-use Rattle.shares.specs.Laws.{both-empty, after-empty, before-empty}
+use Rattle.share_rules.specs.Laws.{both-empty, after-empty, before-empty}
 use Rattle.unwraps.specs.Unwraps.{weighableAll}
 use Rattle.unwraps.proofs.Cases.{beside-weighs}
 use Rattle.meshes.specs.Laws.{named-none, named-some}

@@ -58,38 +58,38 @@ add-end c =
     let k = run-at {ix = c .before .before .loop .ix} (s .args .c) (s .pre .0 .whole) (s .pre .1 .1 .0) (search needs) (s .pre .1 .1 .1) in
     record { fits = omega arith }
 
-mul-pixel-values : tie.Need-mul-pixel-values Inv-loop μ-loop
-mul-pixel-values c =
+mul-fill-pixel : tie.Need-mul-fill-pixel Inv-loop μ-loop
+mul-fill-pixel c =
     let s = c .before .before .before .before .before .before .before .before .before in
     let k = run-at {ix = c .before .before .loop .ix} (s .args .c) (s .pre .0 .whole) (s .pre .1 .1 .0) (search needs) (s .pre .1 .1 .1) in
     record { fits = omega arith }
 
-part-pixel-values-start : tie.Need-part-pixel-values-start Inv-loop μ-loop
-part-pixel-values-start c =
+part-fill-pixel-start : tie.Need-part-fill-pixel-start Inv-loop μ-loop
+part-fill-pixel-start c =
     let s = c .before .before .before .before .before .before .before .before .before in
     let k = run-at {ix = c .before .before .loop .ix} (s .args .c) (s .pre .0 .whole) (s .pre .1 .1 .0) (search needs) (s .pre .1 .1 .1) in
     omega (arith, c .before .before .loop .inv .1)
 
-part-pixel-values-end : tie.Need-part-pixel-values-end Inv-loop μ-loop
-part-pixel-values-end c =
+part-fill-pixel-end : tie.Need-part-fill-pixel-end Inv-loop μ-loop
+part-fill-pixel-end c =
     let s = c .before .before .before .before .before .before .before .before .before in
     let k = run-at {ix = c .before .before .loop .ix} (s .args .c) (s .pre .0 .whole) (s .pre .1 .1 .0) (search needs) (s .pre .1 .1 .1) in
     omega (arith, c .before .before .loop .inv .1)
 
-mul-pixel-values-2 : tie.Need-mul-pixel-values-2 Inv-loop μ-loop
-mul-pixel-values-2 c =
+mul-fill-pixel-2 : tie.Need-mul-fill-pixel-2 Inv-loop μ-loop
+mul-fill-pixel-2 c =
     let s = c .before .before .before .before .before .before .before .before .before .before in
     let k = run-at {ix = c .before .before .before .loop .ix} (s .args .c) (s .pre .0 .whole) (s .pre .1 .1 .0) (search needs) (s .pre .1 .1 .1) in
     record { fits = omega arith }
 
-shared-slice-read-pixel-values : tie.Need-shared-slice-read-pixel-values Inv-loop μ-loop
-shared-slice-read-pixel-values c =
+shared-slice-read-fill-pixel : tie.Need-shared-slice-read-fill-pixel Inv-loop μ-loop
+shared-slice-read-fill-pixel c =
     let s = c .before .before .before .before .before .before .before .before .before .before .before in
     let k = run-at {ix = c .before .before .before .before .loop .ix} (s .args .c) (s .pre .0 .whole) (s .pre .1 .1 .0) (search needs) (s .pre .1 .1 .1) in
     omega arith
 
-pixel-values-requires : tie.Need-pixel-values-requires Inv-loop μ-loop
-pixel-values-requires c κs =
+fill-pixel-requires : tie.Need-fill-pixel-requires Inv-loop μ-loop
+fill-pixel-requires c κs =
     let at = c .before .before .before .before in
     let s = at .before .before .before .before .before .before .before in
     let k = run-at {ix = at .loop .ix} (s .args .c) (s .pre .0 .whole) (s .pre .1 .1 .0) (search needs) (s .pre .1 .1 .1) in
@@ -107,7 +107,7 @@ loop-again c =
     let p = s .args .iy * s .args .w + at .loop .ix in
     let own : p * s .args .c + s .args .c - p * s .args .c ≡ s .args .c = omega arith in
     let t = row-more (s .args .w) (s .args .h) (s .args .m .now) (vertices (s .args .vtx2xyz .now) (s .args .c) (s .args .vtx2val .now)) (s .args .tri2vtx .now) (s .args .pix2tri .now)
-    (s .args .iy) (at .loop .ix) (search needs) (k .entry) _ _ (column .column-at .ensures) (at .before .row-at .ensures) _ _ _ own (c .before .before .pixel-values .ensures)
+    (s .args .iy) (at .loop .ix) (search needs) (k .entry) _ _ (column .column-at .ensures) (at .before .row-at .ensures) _ _ _ own (c .before .before .fill-pixel .ensures)
     (s .args .pix2val .now) (k .run) (at .loop .inv .2)
     in
     (search needs, t .0, t .1)
@@ -121,6 +121,6 @@ returns c = filled-ended _ _ (c .before .loop .ix) _ _ _ _ (search needs) (searc
 pub row-values-spec : {M : Type 1} → statement M
 row-values-spec =
     tie.close
-    (tie.spec Inv-loop μ-loop row-at-requires mul-base loop-holds column-at-requires add-p mul-at add-end mul-pixel-values (λ c. omega arith)
-    part-pixel-values-start part-pixel-values-end mul-pixel-values-2 shared-slice-read-pixel-values pixel-values-requires (λ c. search needs)
+    (tie.spec Inv-loop μ-loop row-at-requires mul-base loop-holds column-at-requires add-p mul-at add-end mul-fill-pixel (λ c. omega arith)
+    part-fill-pixel-start part-fill-pixel-end mul-fill-pixel-2 shared-slice-read-fill-pixel fill-pixel-requires (λ c. search needs)
     (λ c. search needs) loop-again same-length returns)

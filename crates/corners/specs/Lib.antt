@@ -1,0 +1,2 @@
+-- What the code's corners stand for.
+pub mod Answer

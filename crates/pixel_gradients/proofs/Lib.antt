@@ -1,0 +1,2 @@
+-- a law that the proofs cite
+pub mod Gradients

@@ -1,0 +1,2 @@
+-- 01, "Values and their backward pass": the values of one pixel.
+pub mod Pixel
