@@ -33,9 +33,10 @@ module _ (a b c : Float) (n : ℕ) where
   unfolding Misses
   third-lost e f i h = absurd (false≢true (rw (e, and-no, and-no) at f))
 
-  pub none-between : {low high : Float} → low ≡ least a b c → high ≡ greatest a b c → ((i : ℕ) → i < n → between low high (centre i) ≡ false) → Misses a b c n
+  pub none-between : {p q s low high : Float} → p ≡ a → q ≡ b → s ≡ c → low ≡ least p q s → high ≡ greatest p q s
+      → ((i : ℕ) → i < n → between low high (centre i) ≡ false) → Misses a b c n
   unfolding Misses spans
-  none-between e g h f i k = rw (← e, ← g) (h i k)
+  none-between ea eb ec e g h f i k = rw (← ea, ← eb, ← ec, ← e, ← g) (h i k)
 
 -- the ends that were found along an axis of n columns or rows
 pub record Ends (a b c low high : Float) (n i0 i1 : ℕ) : Type 0 where

@@ -4,7 +4,7 @@ use mathlib.Core.Path.{_≡_}
 use mathlib.Core.Bool.{Bool, true, false, not}
 use lib.Ieee.{Float, le}
 use Rattle.pixels.specs.Pixel.{centre}
-use Rattle.rules.specs.Scan.{spans}
+use Rattle.rules.specs.Scan.{column, row, spans}
 use Rattle.rules.specs.Laws.Finite.{allFinite}
 
 -- centre i has come to the box's lower end x; or, past its upper end x
@@ -22,6 +22,11 @@ pub record FirstReached (lower : Bool) (x : Float) (n r : ℕ) : Type 0 where
   pub within : r ≤ n
   pub before : (i : ℕ) → i < r → reached lower x i ≡ false
   pub after : (i : ℕ) → r ≤ i → i < n → reached lower x i ≡ true
+
+-- the coordinate in pixels of a corner along an axis of n: its row where `down`, else its column
+abbrev pub inPixels : Bool → ℕ → Float → Float
+inPixels false n c = column n c
+inPixels true n c = row n c
 
 -- Of three coordinates one is not finite, or none of n centres lies in their closed box: a piece with them brings none of the n anything.
 unfoldable pub Misses : Float → Float → Float → ℕ → Type 0

@@ -34,37 +34,15 @@ pub struct Box {
     pub y1: usize,
 }
 
-// The column in pixels, not whole, of a corner with coordinate x.
-fn column(w: usize, x: f32) -> f32
-    requires { ⌜ w ≤ 4096 ⌝ }
-    ensures { λ r. ⌜ r ≡ rule.column w x ⌝ }
-{
-    (x + 1.0) * 0.5 * pixels::as_float(w)
-}
-
-// The row in pixels of a corner with coordinate y.
-fn row(h: usize, y: f32) -> f32
-    requires { ⌜ h ≤ 4096 ⌝ }
-    ensures { λ r. ⌜ r ≡ rule.row h y ⌝ }
-{
-    (1.0 - y) * 0.5 * pixels::as_float(h)
-}
-
 // Whether a pixel of the image can have anything of the piece. Faces off the image leave early: the columns are tested before the rows are worked out.
 pub fn meets_image(w: usize, h: usize, ndc: [[f32; 3]; 3]) -> bool
     requires { ⌜ Sized 1 w h ⌝ }
     ensures { λ r. ⌜ (r ≡ false → (ix iy : ℕ) → ix < w → iy < h → rule.candidate (rule.screened w h (pieceOf ndc)) ix iy ≡ []) ⌝ }
 {
-    let x0 = column(w, ndc[0][0]);
-    let x1 = column(w, ndc[1][0]);
-    let x2 = column(w, ndc[2][0]);
-    if !axis::spans_centre(x0, x1, x2, w) {
+    if !axis::spans_centre(false, ndc[0][0], ndc[1][0], ndc[2][0], w) {
         return false;
     }
-    let y0 = row(h, ndc[0][1]);
-    let y1 = row(h, ndc[1][1]);
-    let y2 = row(h, ndc[2][1]);
-    axis::spans_centre(y0, y1, y2, h)
+    axis::spans_centre(true, ndc[0][1], ndc[1][1], ndc[2][1], h)
 }
 
 pub fn screened(w: usize, h: usize, ndc: [[f32; 3]; 3]) -> Screen
@@ -73,14 +51,14 @@ pub fn screened(w: usize, h: usize, ndc: [[f32; 3]; 3]) -> Screen
     ensures { λ r. ⌜ screenOf r ≡ rule.screened w h (pieceOf ndc) ⌝ }
 {
     Screen {
-        x0: column(w, ndc[0][0]),
-        y0: row(h, ndc[0][1]),
+        x0: axis::in_pixels(false, w, ndc[0][0]),
+        y0: axis::in_pixels(true, h, ndc[0][1]),
         z0: ndc[0][2],
-        x1: column(w, ndc[1][0]),
-        y1: row(h, ndc[1][1]),
+        x1: axis::in_pixels(false, w, ndc[1][0]),
+        y1: axis::in_pixels(true, h, ndc[1][1]),
         z1: ndc[1][2],
-        x2: column(w, ndc[2][0]),
-        y2: row(h, ndc[2][1]),
+        x2: axis::in_pixels(false, w, ndc[2][0]),
+        y2: axis::in_pixels(true, h, ndc[2][1]),
         z2: ndc[2][2],
     }
 }

@@ -2,7 +2,6 @@
 
 ghost use mathlib.Core.Path.{_≡_};
 ghost use mathlib.Core.Bool.{true};
-ghost use mathlib.Core.Option.{some};
 ghost use Prim.Native.Nat.{_+_, _*_, _/_, _<_};
 ghost use lib.ListN.{length, getD};
 ghost use Rattle.questions.specs.Questions.{namesFace};
@@ -111,15 +110,6 @@ fn weights_in(q: Vec2, f: ProjectedFace) -> CornerWeights
         Vec2 { x: b.x, y: b.y },
         Vec2 { x: c.x, y: c.y },
     )
-}
-
-// Is q inside face number `face`, by the test of `bwd`?
-pub fn face_contains(tri2vtx: &[u32], vtx2xyz: &[f32], m: &[f32; 16], face: usize, q: Vec2) -> bool
-    requires { ⌜ SoundMesh (now tri2vtx) (now vtx2xyz) ⌝ }
-    requires { ⌜ face < length (now tri2vtx) / 3 ⌝ }
-    ensures { λ r. ⌜ r ≡ spec.contains spec.allInside (now (m .entry)) (now (vtx2xyz .entry)) (some (faceAt (now (tri2vtx .entry)) face)) (point2 q) ⌝ }
-{
-    all_inside(weights_in(q, project_face(tri2vtx, vtx2xyz, m, face)))
 }
 
 // Does what a map's entry names contain the point q? An empty entry does.

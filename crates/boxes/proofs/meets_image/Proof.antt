@@ -10,45 +10,19 @@ returns : tie.Need-returns
 unfolding screened onScreen
 returns c =
     λ e ix iy i j.
-    let s = c .before in
-    let a = s .before .before .before .before .before .before .before .args in
-    columns-miss _ (a .w) (a .h)
-    (rw (← (s .before .before .before .before .before .column .ensures), ← (s .before .before .before .column2 .ensures), ← (s .before .column3 .ensures))
-    (s .spans-centre .ensures (not-true (s .spans-centre .result) (c .if1 .taken))))
-    ix iy i
+    let a = c .before .before .before .before .before .args in
+    columns-miss _ (a .w) (a .h) (c .before .spans-centre .ensures (not-true (c .before .spans-centre .result) (c .if1 .taken))) ix iy i
 
 returns-2 : tie.Need-returns-2
 unfolding screened onScreen
 returns-2 c =
     λ e ix iy i j.
-    let a = c .before .before .before .before .before .before .before .before .before .before .before .before .before .before .before .args in
-    rows-miss _ (a .w) (a .h)
-    (rw (← (c .before .before .before .before .before .row .ensures), ← (c .before .before .before .row2 .ensures), ← (c .before .row3 .ensures)) (c .spans-centre2 .ensures e))
-    ix iy j
+    let a = c .before .before .before .before .before .before .before .before .before .args in
+    rows-miss _ (a .w) (a .h) (c .spans-centre2 .ensures e) ix iy j
 
 pub meets-image-spec : {M : Type 1} → statement M
 meets-image-spec =
     tie.close
     (tie.spec
-    (λ c. search needs)
-    (λ c. search needs)
-    (λ c κs. search needs)
-    (λ c. search needs)
-    (λ c. search needs)
-    (λ c κs. search needs)
-    (λ c. search needs)
-    (λ c. search needs)
-    (λ c κs. search needs)
-    (λ c κs. search needs)
-    returns
-    (λ c. search needs)
-    (λ c. search needs)
-    (λ c κs. search needs)
-    (λ c. search needs)
-    (λ c. search needs)
-    (λ c κs. search needs)
-    (λ c. search needs)
-    (λ c. search needs)
-    (λ c κs. search needs)
-    (λ c κs. search needs)
-    returns-2)
+    (λ c. search needs) (λ c. search needs) (λ c. search needs) (λ c. search needs) (λ c. search needs) (λ c. search needs) (λ c κs. search needs) returns
+    (λ c. search needs) (λ c. search needs) (λ c. search needs) (λ c. search needs) (λ c. search needs) (λ c. search needs) (λ c κs. search needs) returns-2)

@@ -24,7 +24,7 @@ returns c =
     let s = a .before .before .before .before .before in
     let o0 = b .before .before .tri-new .ensures in
     rw (
-      both-contain (s .args .axis) (s .args .m .now) (s .args .vtx2xyz .now) (faceAt (s .args .tri2vtx .now) (s .args .i0)) (faceAt (s .args .tri2vtx .now) (s .args .i1)) (point2 (s .args .q0)) (point2 (s .args .q1)) o0 (n .tri-new2 .ensures) (so (a .before .face-contains .ensures) (a .if1 .taken))
+      both-contain (s .args .axis) (s .args .m .now) (s .args .vtx2xyz .now) (faceAt (s .args .tri2vtx .now) (s .args .i0)) (faceAt (s .args .tri2vtx .now) (s .args .i1)) (point2 (s .args .q0)) (point2 (s .args .q1)) o0 (n .tri-new2 .ensures) (so (a .before .inside .ensures) (a .if1 .taken))
           (inside-is o0 (point2 (s .args .q1)) ∙ so (b .before .is-inside .ensures) (b .if2 .taken)),
       ← (crossing-adds o0 (n .tri-new2 .ensures) (s .args .axis) (point2 (s .args .q0)) (point2 (s .args .q1)) (s .args .d)),
     )
@@ -41,7 +41,7 @@ returns-2 c =
     let s = a .before .before .before .before .before in
     let o0 = b .before .before .tri-new .ensures in
     rw (
-      second-contains (s .args .axis) (s .args .m .now) (s .args .vtx2xyz .now) (faceAt (s .args .tri2vtx .now) (s .args .i0)) (faceAt (s .args .tri2vtx .now) (s .args .i1)) (point2 (s .args .q0)) (point2 (s .args .q1)) (so (a .before .face-contains .ensures) (a .if1 .taken))
+      second-contains (s .args .axis) (s .args .m .now) (s .args .vtx2xyz .now) (faceAt (s .args .tri2vtx .now) (s .args .i0)) (faceAt (s .args .tri2vtx .now) (s .args .i1)) (point2 (s .args .q0)) (point2 (s .args .q1)) (so (a .before .inside .ensures) (a .if1 .taken))
           (inside-is o0 (point2 (s .args .q1)) ∙ so (b .before .is-inside .ensures) (b .if2 .left)),
       ← (one-adds o0 (s .args .d) (point2 (s .args .q0)) (along (s .args .axis))),
       ← (k .before .along .ensures),
@@ -53,7 +53,7 @@ unfolding summed flatMap
 returns-3 c =
     let a = c .before .before in
     let s = a .before .before .before .before .before in
-    rw (neither-contains (s .args .axis) (s .args .m .now) (s .args .vtx2xyz .now) (faceAt (s .args .tri2vtx .now) (s .args .i0)) (faceAt (s .args .tri2vtx .now) (s .args .i1)) (point2 (s .args .q0)) (point2 (s .args .q1)) (so (a .before .face-contains .ensures) (a .if1 .left)) (said-no (c .before .face-contains2 .ensures) (c .if3 .taken)))
+    rw (neither-contains (s .args .axis) (s .args .m .now) (s .args .vtx2xyz .now) (faceAt (s .args .tri2vtx .now) (s .args .i0)) (faceAt (s .args .tri2vtx .now) (s .args .i1)) (point2 (s .args .q0)) (point2 (s .args .q1)) (so (a .before .inside .ensures) (a .if1 .left)) (said-no (c .before .inside2 .ensures) (c .if3 .taken)))
 
 scatter-requires-2 : tie.Need-scatter-requires-2
 scatter-requires-2 c κs = let s = c .before .before .before .before .before .before .before .before .before .before in (sound-again (s .pre .0) (s .pre .1 .1 .1), s .pre .1 .1 .0 .there)
@@ -66,7 +66,7 @@ returns-4 c =
     let a = b .before .before in
     let s = a .before .before .before .before .before in
     rw (
-      first-contains (s .args .axis) (s .args .m .now) (s .args .vtx2xyz .now) (faceAt (s .args .tri2vtx .now) (s .args .i0)) (faceAt (s .args .tri2vtx .now) (s .args .i1)) (point2 (s .args .q0)) (point2 (s .args .q1)) (so (a .before .face-contains .ensures) (a .if1 .left)) (said-yes (b .before .face-contains2 .ensures) (b .if3 .left)),
+      first-contains (s .args .axis) (s .args .m .now) (s .args .vtx2xyz .now) (faceAt (s .args .tri2vtx .now) (s .args .i0)) (faceAt (s .args .tri2vtx .now) (s .args .i1)) (point2 (s .args .q0)) (point2 (s .args .q1)) (so (a .before .inside .ensures) (a .if1 .left)) (said-yes (b .before .inside2 .ensures) (b .if3 .left)),
       ← (one-adds (n .tri-new3 .ensures) (s .args .d) (point2 (s .args .q1)) (along (s .args .axis))),
       ← (k .before .along2 .ensures),
     )

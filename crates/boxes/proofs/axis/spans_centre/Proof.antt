@@ -1,4 +1,6 @@
 -- `axis::spans_centre`: one that is not finite, or no centre between the least and the greatest.
+use mathlib.Core.Path.{sym, _∙_, ap}
+use lib.Ieee.Scale.{finite}
 use borrow.Author.Needs.{needs}
 use Rattle.lists.specs.Laws.Tests.{said-no}
 use Rattle.boxes.proofs.Scans.{first-lost, second-lost, third-lost, none-between}
@@ -6,28 +8,26 @@ use Rattle.boxes.proofs.axis.spans_centre.Statement.{statement}
 use Rattle.boxes.proofs.axis.spans_centre.Tie as tie
 
 returns : tie.Need-returns
-returns c = λ e. first-lost _ _ _ _ (said-no (c .before .finite .ensures) (c .if1 .taken))
+returns c = λ e. first-lost _ _ _ _ (sym (ap finite (c .before .before .in-pixels .ensures)) ∙ said-no (c .before .finite .ensures) (c .if1 .taken))
 
 returns-2 : tie.Need-returns-2
-returns-2 c = λ e. second-lost _ _ _ _ (said-no (c .before .finite2 .ensures) (c .if2 .taken))
+returns-2 c = λ e. second-lost _ _ _ _ (sym (ap finite (c .before .before .in-pixels2 .ensures)) ∙ said-no (c .before .finite2 .ensures) (c .if2 .taken))
 
 returns-3 : tie.Need-returns-3
-returns-3 c = λ e. third-lost _ _ _ _ (said-no (c .before .finite3 .ensures) (c .if3 .taken))
+returns-3 c = λ e. third-lost _ _ _ _ (sym (ap finite (c .before .before .in-pixels3 .ensures)) ∙ said-no (c .before .finite3 .ensures) (c .if3 .taken))
 
 returns-4 : tie.Need-returns-4
-returns-4 c = λ e. none-between _ _ _ _ (c .before .before .least .ensures) (c .before .greatest .ensures) (c .meets .ensures e)
+returns-4 c =
+    λ e.
+    let third = c .before .before .before .before .before in
+    let second = third .before .before .before in
+    let first = second .before .before .before in
+    none-between _ _ _ _ (first .in-pixels .ensures) (second .in-pixels2 .ensures) (third .in-pixels3 .ensures) (c .before .before .least .ensures)
+    (c .before .greatest .ensures) (c .meets .ensures e)
 
 pub spans-centre-spec : {M : Type 1} → statement M
 spans-centre-spec =
     tie.close
     (tie.spec
-    (λ c κs. search needs)
-    returns
-    (λ c κs. search needs)
-    returns-2
-    (λ c κs. search needs)
-    returns-3
-    (λ c κs. search needs)
-    (λ c κs. search needs)
-    (λ c κs. search needs)
-    returns-4)
+    (λ c κs. search needs) (λ c κs. search needs) returns (λ c κs. search needs) (λ c κs. search needs) returns-2
+    (λ c κs. search needs) (λ c κs. search needs) returns-3 (λ c κs. search needs) (λ c κs. search needs) (λ c κs. search needs) returns-4)
