@@ -1,13 +1,12 @@
 -- Where each pixel has its weights, or is like all its neighbours, every pair of both axes is answered yes.
-use Prim.Native.Nat.{ℕ, _+_, _-_, _*_, _/_, _%_, _≤_, _<_}
+use Prim.Native.Nat.{ℕ, _+_, _-_, _/_, _%_, _<_}
 use mathlib.Core.Path.{_≡_, refl, sym, _∙_, ap}
 use mathlib.Core.Logic.{⊎-elim}
 use mathlib.Core.Bool.{Bool, true, false, cond}
 use mathlib.Core.Option.{Option, none, some}
 use mathlib.Core.List.{List, [], _∷_}
-use native.Mathlib.Nat.{div-add-mod', mod-lt, mul-comm, zero-add}
+use native.Mathlib.Nat.{div-add-mod', mod-lt, zero-add}
 use native.Mathlib.Omega.{arith}
-use borrow.Author.Count.{below-none, below-more}
 use lib.Ieee.{Float}
 use Rattle.lists.specs.Lists.{span, every}
 use Rattle.lists.specs.Laws.Tests.{after-yes}
@@ -19,7 +18,7 @@ use Rattle.meshes.specs.View.{viewOf}
 use Rattle.meshes.specs.Sound.{SoundMap}
 use Rattle.pixels.specs.Pixel.{centreOf}
 use Rattle.pixels.specs.Edge.{Axis, axis, hedge, vedge, Edge, edgeFrom, edgeAt, edgeCount}
-use Rattle.pixels.specs.Laws.{Walked, walked-none, walked-more, Follows, row-at, column-at, number-below}
+use Rattle.pixels.specs.Laws.{Walked}
 use Rattle.inside.specs.Inside.{allInside, contains, projectFace}
 use Rattle.inside.specs.Steps.{allProject}
 use Rattle.pairs.specs.Pairs.{EdgeView, edgeView, firstOf, secondOf, equalEntries, bothAnswered}
@@ -30,31 +29,6 @@ use Rattle.crossings.specs.Crossing.{skipped, coefficient0, coefficient1, gPix}
 use Rattle.share_rules.specs.Shares.{Share, share, alone, crossing, crossingOf, intersection, received, between, sharesAt}
 use Rattle.unwraps.specs.Unwraps.{weighable, weighableAll, unwraps, allUnwraps, bothUnwrap}
 use Rattle.pixel_unwraps.specs.Steps.{LikeNext, LikePrevious, LikeAllNeighbours, weighsOf, WeighsOrInner}
-
--- ---- the loop over the pixels: what holds before turn i
-
-pub record Passed (P : ℕ → ℕ → Type 0) (w n i x y : ℕ) : Type 0 where
-  pub within : i ≤ n
-  pub walked : Walked w i x y
-  pub each : (j : ℕ) → j < i → (k l : ℕ) → k < w → l * w + k ≡ j → P k l
-
-module _ (P : ℕ → ℕ → Type 0) (w n : ℕ) where
-  pub passed-none : Passed P w n 0 0 0
-  passed-none = record { within = omega arith; walked = walked-none w; each = below-none _ }
-
-  pub passed-more : {i x y x' y' : ℕ} → Passed P w n i x y → i < n → x < w → P x y → Follows w x y x' y' → Passed P w n (i + 1) x' y'
-  passed-more {i} {x} {y} p l hx here follows =
-      record { within = omega arith; walked = walked-more (p .walked) follows; each = below-more _ _ (p .each) at }
-    where
-      at : (k m : ℕ) → k < w → m * w + k ≡ i → P k m
-      at k m hk e =
-          let same : m * w + k ≡ y * w + x = e ∙ sym (p .walked .number) in
-          let row : y ≡ m = sym (row-at w y x hx) ∙ ap (λ (j : ℕ). j / w) (sym same) ∙ row-at w m k hk in
-          let column : x ≡ k = sym (column-at w y x hx) ∙ ap (λ (j : ℕ). j % w) (sym same) ∙ column-at w m k hk in
-          rw (← row, ← column) here
-
-  pub passed-all : {h i x y : ℕ} → Passed P w n i x y → n ≡ h * w → n ≤ i → (k l : ℕ) → k < w → l < h → P k l
-  passed-all {h} {i} p e g k l hk hl = p .each (l * w + k) (omega (arith, number-below hk hl, mul-comm w h)) k l hk refl
 
 -- ---- what two pixels with their weights give
 

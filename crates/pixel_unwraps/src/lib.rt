@@ -141,7 +141,33 @@ fn weighs_or_inner(
     entry_weighs(tri2vtx, vtx2xyz, m, pix2tri[p], pixels::centre_of(x, y))
 }
 
-// All pixels, row by row.
+// All pixels of a row.
+fn row_weighs_or_inner(
+    tri2vtx: &[u32],
+    vtx2xyz: &[f32],
+    m: &[f32; 16],
+    img_w: usize,
+    img_h: usize,
+    pix2tri: &[u32],
+    y: usize,
+) -> bool
+    requires { ⌜ SoundMap (now «tri2vtx») (now «vtx2xyz») (now «pix2tri») «img_w» «img_h» ⌝ }
+    requires { ⌜ allProject (now m) (now «vtx2xyz») ≡ true ⌝ }
+    requires { ⌜ y < «img_h» ⌝ }
+    ensures { λ r. ⌜ (r ≡ true → (x : ℕ) → x < «img_w»
+        → WeighsOrInner (now («tri2vtx» .entry)) (now («pix2tri» .entry)) (now (m .entry)) (now («vtx2xyz» .entry)) «img_w» «img_h» x y) ⌝ }
+{
+    let mut x = 0;
+    while x < img_w {
+        if !weighs_or_inner(tri2vtx, vtx2xyz, m, img_w, img_h, pix2tri, x, y) {
+            return false;
+        }
+        x += 1;
+    }
+    true
+}
+
+// All rows. What a row's pixels share is worked out once for the row.
 fn all_weigh_or_inner(
     tri2vtx: &[u32],
     vtx2xyz: &[f32],
@@ -152,21 +178,15 @@ fn all_weigh_or_inner(
 ) -> bool
     requires { ⌜ SoundMap (now «tri2vtx») (now «vtx2xyz») (now «pix2tri») «img_w» «img_h» ⌝ }
     requires { ⌜ allProject (now m) (now «vtx2xyz») ≡ true ⌝ }
-    ensures { λ r. ⌜ (r ≡ true → (x y : ℕ) → x < «img_w» → y < «img_h»
+    ensures { λ r. ⌜ (r ≡ true → (y : ℕ) → y < «img_h» → (x : ℕ) → x < «img_w»
         → WeighsOrInner (now («tri2vtx» .entry)) (now («pix2tri» .entry)) (now (m .entry)) (now («vtx2xyz» .entry)) «img_w» «img_h» x y) ⌝ }
 {
-    let n = img_h * img_w;
-    let mut x = 0;
     let mut y = 0;
-    let mut i = 0;
-    while i < n {
-        if !weighs_or_inner(tri2vtx, vtx2xyz, m, img_w, img_h, pix2tri, x, y) {
+    while y < img_h {
+        if !row_weighs_or_inner(tri2vtx, vtx2xyz, m, img_w, img_h, pix2tri, y) {
             return false;
         }
-        let next = pixels::next(x, y, img_w);
-        x = next.x;
-        y = next.y;
-        i += 1;
+        y += 1;
     }
     true
 }

@@ -14,7 +14,7 @@ all-weigh-or-inner-requires c κs = (c .before .before .before .before .before .
 returns-2 : tie.Need-returns-2
 returns-2 c = λ e.
     let a = c .before .before in
-    all-unwrap _ _ _ _ _ _ (c .all-weigh-or-inner .ensures e) (a .before .before .before .before .pre) (said-yes (a .all-project .ensures) (c .before .if1 .left))
+    all-unwrap _ _ _ _ _ _ (λ x y hx hy. c .all-weigh-or-inner .ensures e y hy x hx) (a .before .before .before .before .pre) (said-yes (a .all-project .ensures) (c .before .if1 .left))
 
 pub quickly-answered-spec : {M : Type 1} → statement M
 quickly-answered-spec = tie.close (tie.spec (λ c κs. search needs) returns all-weigh-or-inner-requires returns-2)
