@@ -1,38 +1,63 @@
 //! Finds the listed Rust, in the folder that `DEL_MSH_SRC` names or in `../shared/docs/src` beside the
 //! repository, and has it compiled unchanged from there. Where it is not found, the comparison is left out.
-//! Of edgegrad.rs a second module has the lines changed that 01 decides otherwise (docs/DIFFERENCES.md).
+//! Of edgegrad.rs a second module has the places changed that 01 and 02 decide otherwise (docs/DIFFERENCES.md).
 use std::path::{Path, PathBuf};
 
-/// What 01 decides otherwise in `scatter_intersection_gradient`, as listed and as changed; each stands there once.
-const CHANGES: [[&str; 2]; 3] = [
-    // the second point, which is listed with the first triangle's corners
-    [
+/// What the documents decide otherwise: how often it stands in the file, as listed and as changed.
+const CHANGES: [(usize, &str, &str); 4] = [
+    // an intersection's second point, which is listed with the first triangle's corners
+    (
+        1,
         "let xyz1 = tri0.world_pos_from_barycentric_coord(&b1);",
         "let xyz1 = tri1.world_pos_from_barycentric_coord(&b1);",
-    ],
+    ),
     // hypot, which is listed as the C library's
-    [
+    (
+        1,
         "n0[axis].hypot(n0[2])",
         "del_geo_core::float_tools::hypot(n0[axis], n0[2])",
-    ],
-    [
+    ),
+    (
+        1,
         "n1[axis].hypot(n1[2])",
         "del_geo_core::float_tools::hypot(n1[axis], n1[2])",
-    ],
+    ),
+    // the inside test of the type call, of both centres in both of its loops: that of `bwd` (02, Point 4)
+    (
+        4,
+        "fn_inside(fn_barycentric_pix(",
+        "std::convert::identity(inside_by_bwd(",
+    ),
 ];
+
+/// The test of `bwd` with the arguments of the type call's.
+const INSIDE_BY_BWD: &str = "
+fn inside_by_bwd(
+    tri2vtx: &[[u32; 3]],
+    vtx2xyz: &[[f32; 3]],
+    pixcntr: &[f32; 2],
+    itri: u32,
+    transform_world2pix: &[f32; 16],
+) -> bool {
+    Tri::new(itri, tri2vtx, vtx2xyz, transform_world2pix).is_none_or(|tri| tri.is_inside(pixcntr))
+}
+";
 
 fn module(name: &str, file: &Path) -> String {
     format!("#[allow(warnings, clippy::all)]\n#[path = {file:?}]\npub mod {name};\n")
 }
 
-/// The file with each change made once, and no call of the C library's hypot left.
+/// The file with each change made as often as it stands there, and neither the C library's hypot nor the type call's own
+/// test called any more.
 fn changed(mut file: String) -> String {
-    for [listed, changed] in CHANGES {
-        assert_eq!(file.matches(listed).count(), 1, "{listed}: once");
+    for (times, listed, changed) in CHANGES {
+        assert_eq!(file.matches(listed).count(), times, "{listed}: {times}");
         file = file.replace(listed, changed);
     }
     assert!(!file.contains(".hypot("), "another hypot is listed");
-    file
+    let tests = file.matches("fn_inside(").count();
+    assert_eq!(tests, 1, "the type call's own test is left without a call");
+    file + INSIDE_BY_BWD
 }
 
 fn main() {

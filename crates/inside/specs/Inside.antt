@@ -1,5 +1,5 @@
 -- When a face contains a point of the image.
-use mathlib.Core.Bool.{Bool, true, false, _&&_, _||_}
+use mathlib.Core.Bool.{Bool, true, false, _&&_}
 use mathlib.Core.Option.{Option, none, some}
 use mathlib.Core.List.{List}
 use lib.Ieee.{Float, le}
@@ -11,15 +11,7 @@ use Rattle.meshes.specs.Mesh.{Face, vertexAt}
 unfoldable pub allAtLeastZero : Weights Float → Bool
 allAtLeastZero b = le (floats .zero) (b .b0) && (le (floats .zero) (b .b1) && le (floats .zero) (b .b2))
 
-unfoldable pub allAtMostZero : Weights Float → Bool
-allAtMostZero b = le (b .b0) (floats .zero) && (le (b .b1) (floats .zero) && le (b .b2) (floats .zero))
-
--- "In `edge_gradient_and_type` a point counts as inside when the weights are all ≥ 0 or all ≤ 0, or there are none."
-unfoldable pub inside : Option (Weights Float) → Bool
-inside none = true
-inside (some b) = allAtLeastZero b || allAtMostZero b
-
--- "In `bwd` the weights must all be ≥ 0 and none means outside."
+-- "In `bwd` the weights must all be ≥ 0 and none means outside." 02, Point 4: "The type call must use the test of `bwd`".
 unfoldable pub allInside : Option (Weights Float) → Bool
 allInside none = false
 allInside (some b) = allAtLeastZero b

@@ -1,4 +1,4 @@
--- When a face contains a point of the image: the tests of both edge passes.
+-- When a face contains a point of the image: the test of both edge passes.
 pub mod Inside
 pub mod Answer
 pub mod Steps

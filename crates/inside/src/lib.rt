@@ -1,12 +1,13 @@
-// A face as the matrix projects it, and the tests of both edge passes whether it contains a point. No function here is a public call.
+// A face as the matrix projects it, and the one test of both edge passes whether it contains a point. No function here is a public call.
 
 ghost use mathlib.Core.Path.{_≡_};
 ghost use mathlib.Core.Bool.{true};
+ghost use mathlib.Core.Option.{some};
 ghost use Prim.Native.Nat.{_+_, _*_, _/_, _<_};
 ghost use lib.ListN.{length, getD};
 ghost use Rattle.questions.specs.Questions.{namesFace};
-ghost use Rattle.geometry.specs.Vector.{weights};
-ghost use Rattle.geometry.specs.Answer.{point2, projectionOf, weightsOf};
+ghost use Rattle.geometry.specs.Vector.{weights, triangle};
+ghost use Rattle.geometry.specs.Answer.{point2, projectedOf, projectionOf, weightsOf};
 ghost use Rattle.geometry.specs.Leaf.{project};
 ghost use Rattle.meshes.specs.Mesh.{faceAt, vertexAt};
 ghost use Rattle.meshes.specs.View.{named};
@@ -36,31 +37,7 @@ fn all_at_least_zero(b0: f32, b1: f32, b2: f32) -> bool
     false
 }
 
-fn all_at_most_zero(b0: f32, b1: f32, b2: f32) -> bool
-    ensures { λ r. ⌜ r ≡ spec.allAtMostZero (weights b0 b1 b2) ⌝ }
-{
-    if b0 <= 0.0 {
-        if b1 <= 0.0 {
-            return b2 <= 0.0;
-        }
-    }
-    false
-}
-
-// A point is inside when its weights are all >= 0 or all <= 0, or there are none.
-fn inside(b: CornerWeights) -> bool
-    ensures { λ r. ⌜ r ≡ spec.inside (weightsOf b) ⌝ }
-{
-    let CornerWeights::Three(b0, b1, b2) = b else {
-        return true;
-    };
-    if all_at_least_zero(b0, b1, b2) {
-        return true;
-    }
-    all_at_most_zero(b0, b1, b2)
-}
-
-// The test of `bwd`: the weights are all >= 0, and none means outside.
+// The test of both edge passes: the weights are all >= 0, and none means outside.
 pub fn all_inside(b: CornerWeights) -> bool
     ensures { λ r. ⌜ r ≡ spec.allInside (weightsOf b) ⌝ }
 {
@@ -97,31 +74,47 @@ fn project_face(tri2vtx: &[u32], vtx2xyz: &[f32], m: &[f32; 16], face: usize) ->
     ProjectedFace::Corners(p0, p1, p2)
 }
 
-// The weights of q in a projected face.
-fn weights_in(q: Vec2, f: ProjectedFace) -> CornerWeights
-    ensures { λ r. ⌜ weightsOf r ≡ spec.weightsIn (point2 q) (projectedFaceOf f) ⌝ }
+// The weights of q in the triangle of three projected corners.
+fn weights_in(q: Vec2, p0: Projected, p1: Projected, p2: Projected) -> CornerWeights
+    ensures { λ r. ⌜ weightsOf r ≡ spec.weightsIn (point2 q) (some (triangle (projectedOf p0) (projectedOf p1) (projectedOf p2))) ⌝ }
 {
-    let ProjectedFace::Corners(a, b, c) = f else {
-        return CornerWeights::Nothing;
-    };
     geometry::corner_weights(
         q,
-        Vec2 { x: a.x, y: a.y },
-        Vec2 { x: b.x, y: b.y },
-        Vec2 { x: c.x, y: c.y },
+        Vec2 { x: p0.x, y: p0.y },
+        Vec2 { x: p1.x, y: p1.y },
+        Vec2 { x: p2.x, y: p2.y },
     )
+}
+
+// Does face number `face` contain the point q?
+pub fn face_contains(tri2vtx: &[u32], vtx2xyz: &[f32], m: &[f32; 16], face: usize, q: Vec2) -> bool
+    requires { ⌜ SoundMesh (now tri2vtx) (now vtx2xyz) ⌝ }
+    requires { ⌜ face < length (now tri2vtx) / 3 ⌝ }
+    ensures { λ r. ⌜ r ≡ spec.contains spec.allInside (now (m .entry)) (now (vtx2xyz .entry)) (some (faceAt (now (tri2vtx .entry)) face)) (point2 q) ⌝ }
+{
+    let i = 3 * face;
+    let Projection::At(p0) = corner(tri2vtx, vtx2xyz, m, i) else {
+        return false;
+    };
+    let Projection::At(p1) = corner(tri2vtx, vtx2xyz, m, i + 1) else {
+        return false;
+    };
+    let Projection::At(p2) = corner(tri2vtx, vtx2xyz, m, i + 2) else {
+        return false;
+    };
+    all_inside(weights_in(q, p0, p1, p2))
 }
 
 // Does what a map's entry names contain the point q? An empty entry does.
 pub fn contains(tri2vtx: &[u32], vtx2xyz: &[f32], m: &[f32; 16], entry: u32, q: Vec2) -> bool
     requires { ⌜ SoundMesh (now tri2vtx) (now vtx2xyz) ⌝ }
     requires { ⌜ namesFace (length (now tri2vtx) / 3) entry ≡ true ⌝ }
-    ensures { λ r. ⌜ r ≡ spec.contains spec.inside (now (m .entry)) (now (vtx2xyz .entry)) (named (now (tri2vtx .entry)) entry) (point2 q) ⌝ }
+    ensures { λ r. ⌜ r ≡ spec.contains spec.allInside (now (m .entry)) (now (vtx2xyz .entry)) (named (now (tri2vtx .entry)) entry) (point2 q) ⌝ }
 {
     if entry == questions::EMPTY {
         return true;
     }
-    inside(weights_in(q, project_face(tri2vtx, vtx2xyz, m, entry as usize)))
+    face_contains(tri2vtx, vtx2xyz, m, entry as usize, q)
 }
 
 // Has vertex number `v` a projection?

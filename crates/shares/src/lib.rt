@@ -114,7 +114,7 @@ fn scatter_between(
     ensures { λ r. ⌜ now (sums .exit) ≡ summed (now (sums .entry)) (flatMap (additionsOf (now (m .entry)) (now (vtx2xyz .entry)) d)
         (between axis (now (m .entry)) (now (vtx2xyz .entry)) (some (faceAt (now (tri2vtx .entry)) i0)) (some (faceAt (now (tri2vtx .entry)) i1)) (point2 q0) (point2 q1))) ⌝ }
 {
-    if tris::inside(tri2vtx, vtx2xyz, m, i1, q0) {
+    if inside::face_contains(tri2vtx, vtx2xyz, m, i1, q0) {
         let t0 = tris::tri_new(tri2vtx, vtx2xyz, m, i0);
         if tris::is_inside(t0, q1) {
             let t1 = tris::tri_new(tri2vtx, vtx2xyz, m, i1);
@@ -124,7 +124,7 @@ fn scatter_between(
         scattering::scatter(sums, tri2vtx, m, i0, t0, q0, crossings::along(axis, d));
         return;
     }
-    if !tris::inside(tri2vtx, vtx2xyz, m, i0, q1) {
+    if !inside::face_contains(tri2vtx, vtx2xyz, m, i0, q1) {
         return;
     }
     let t1 = tris::tri_new(tri2vtx, vtx2xyz, m, i1);

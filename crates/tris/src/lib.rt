@@ -7,7 +7,7 @@ ghost use lib.ListN.{length};
 ghost use Rattle.geometry.specs.Vector.{weights, triangle};
 ghost use Rattle.geometry.specs.Answer.{point2, point3, projectedOf, weightsOf};
 ghost use Rattle.meshes.specs.Mesh.{faceAt, cornersAt};
-ghost use Rattle.inside.specs.Inside.{allInside, weightsIn, contains, present};
+ghost use Rattle.inside.specs.Inside.{allInside, weightsIn, present};
 ghost use Rattle.meshes.specs.Sound.{SoundMesh};
 ghost use Rattle.tris.specs.Weights as spec;
 ghost use Rattle.rays.specs.Answer.{cornersOf};
@@ -84,31 +84,6 @@ pub fn is_inside(t: Tri, q: Vec2) -> bool
     ensures { λ r. ⌜ r ≡ allInside (weightsIn (point2 q) (some (projectedIn t))) ⌝ }
 {
     inside::all_inside(barycentric_pix(t, q))
-}
-
-// The weights of q in the triangle of three projected corners.
-fn weights_in(q: Vec2, p0: Projected, p1: Projected, p2: Projected) -> CornerWeights
-    ensures { λ r. ⌜ weightsOf r ≡ weightsIn (point2 q) (some (triangle (projectedOf p0) (projectedOf p1) (projectedOf p2))) ⌝ }
-{
-    geometry::corner_weights(
-        q,
-        Vec2 { x: p0.x, y: p0.y },
-        Vec2 { x: p1.x, y: p1.y },
-        Vec2 { x: p2.x, y: p2.y },
-    )
-}
-
-// Is q inside face number i? Without its `Tri`, no more is worked out than where its corners lie in the image.
-pub fn inside(tri2vtx: &[u32], vtx2xyz: &[f32], m: &[f32; 16], i: usize, q: Vec2) -> bool
-    requires { ⌜ SoundMesh (now tri2vtx) (now vtx2xyz) ⌝ }
-    requires { ⌜ Projects (now tri2vtx) (now m) (now vtx2xyz) i ⌝ }
-    ensures { λ r. ⌜ r ≡ contains allInside (now (m .entry)) (now (vtx2xyz .entry)) (some (faceAt (now (tri2vtx .entry)) i)) (point2 q) ⌝ }
-{
-    let x = corners(tri2vtx, vtx2xyz, i);
-    let p0 = jacobians::project_untested(m, x.p0);
-    let p1 = jacobians::project_untested(m, x.p1);
-    let p2 = jacobians::project_untested(m, x.p2);
-    inside::all_inside(weights_in(q, p0, p1, p2))
 }
 
 // The weights, or none where one of them is not finite.

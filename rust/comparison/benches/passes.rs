@@ -12,7 +12,7 @@ fn main() {
 
 #[cfg(listed)]
 mod listed {
-    use comparison::crossing::unlike_and_crossing;
+    use comparison::pairs::unlike_and_crossing;
     use comparison::pass::Pass;
     use comparison::random::Random;
     use comparison::reference;

@@ -1,5 +1,5 @@
 //! The library's calls beside the listed Rust, which is built over stand-ins for the crates that it calls, unchanged
-//! and changed where 01 decides otherwise, and beside the questions of 01, read into Rust a second time.
+//! and changed where 01 and 02 decide otherwise, and beside the questions of 01, read into Rust a second time.
 
 #[cfg(listed)]
 include!(concat!(env!("OUT_DIR"), "/listed.rs"));
@@ -7,8 +7,8 @@ include!(concat!(env!("OUT_DIR"), "/listed.rs"));
 #[cfg(listed)]
 pub mod reference;
 
-pub mod crossing;
 pub mod expected;
+pub mod pairs;
 pub mod pass;
 pub mod random;
 pub mod scene;

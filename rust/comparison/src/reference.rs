@@ -65,13 +65,31 @@ pub fn interpolate_bwd(pass: &Pass) -> Option<[Vec<f32>; 2]> {
     })
 }
 
-/// `hedge2type` and `vedge2type`, `hedge2dldr` and `vedge2dldr` afterwards.
-pub fn edge_gradient_and_type(pass: &Pass) -> Option<([Vec<u8>; 2], [Vec<f32>; 2])> {
+/// `edge_gradient_and_type` of the unchanged file, or of the one that is changed where the documents decide otherwise.
+type EdgeTypes = fn(
+    &[[u32; 3]],
+    &[[f32; 3]],
+    &[f32; 16],
+    (usize, usize),
+    &[u32],
+    usize,
+    &[f32],
+    &[f32],
+    &mut [u8],
+    &mut [f32],
+    &mut [u8],
+    &mut [f32],
+);
+
+/// What the type call leaves: `hedge2type` and `vedge2type`, `hedge2dldr` and `vedge2dldr`.
+pub type Typed = ([Vec<u8>; 2], [Vec<f32>; 2]);
+
+fn edge_types_by(edge_types: EdgeTypes, pass: &Pass) -> Option<Typed> {
     unless_it_panics(|| {
         let mut types = [pass.hedge2type.clone(), pass.vedge2type.clone()];
         let mut dldrs = [pass.hedge2dldr.clone(), pass.vedge2dldr.clone()];
         let ([hedge2type, vedge2type], [hedge2dldr, vedge2dldr]) = (&mut types, &mut dldrs);
-        crate::edgegrad::edge_gradient_and_type(
+        edge_types(
             pass.tri2vtx.as_chunks::<3>().0,
             pass.vtx2xyz.as_chunks::<3>().0,
             &pass.transform_world2pix,
@@ -89,7 +107,17 @@ pub fn edge_gradient_and_type(pass: &Pass) -> Option<([Vec<u8>; 2], [Vec<f32>; 2
     })
 }
 
-/// `bwd` of the unchanged file, or of the one that is changed where 01 decides otherwise.
+/// Types and `dldr` afterwards, by the inside test of `bwd`.
+pub fn edge_gradient_and_type(pass: &Pass) -> Option<Typed> {
+    edge_types_by(crate::edgegrad_by_the_rules::edge_gradient_and_type, pass)
+}
+
+/// The same by the file as it is listed.
+pub fn edge_gradient_and_type_as_listed(pass: &Pass) -> Option<Typed> {
+    edge_types_by(crate::edgegrad::edge_gradient_and_type, pass)
+}
+
+/// `bwd` of the unchanged file, or of the changed one.
 type Bwd = fn(
     &[[u32; 3]],
     &[[f32; 3]],

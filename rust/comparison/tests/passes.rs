@@ -5,6 +5,7 @@ use comparison::expected::{
     bwd_code_to_8, edge_gradient_and_type_code, interpolate_bwd_code, interpolate_code,
     interpolate_from_edges_code,
 };
+use comparison::pairs::{edge_type, hedges, unlike, vedges, Pair};
 use comparison::pass::{crowded_pass, pass, velocities, Pass, Velocities};
 use comparison::scene::{EMPTY, MOST};
 use paqelzim::Refusal;
@@ -206,6 +207,91 @@ fn edge_types() {
     seen.is_all_of(&[0, 1, 2, 3, 4, 6, 7, 8]);
 }
 
+/// Each pair's type is what 02's words make it, whether or not `bwd` accepts; where every type is 0, `bwd` adds nothing.
+#[test]
+fn types_by_the_test_of_bwd() {
+    let (mut ones, mut refused, mut quiet) = (0, 0, 0);
+    for pass in passes() {
+        let (code, left) = edges(&pass);
+        if code != 0 {
+            continue;
+        }
+        let types = [left.hedge2type, left.vedge2type].concat();
+        let pairs: Vec<Pair> = hedges(&pass).chain(vedges(&pass)).collect();
+        let wanted = pairs.iter().map(|&pair| edge_type(&pass, pair));
+        assert_eq!(types, wanted.collect::<Vec<_>>(), "{pass:?}");
+        ones += types.iter().filter(|&&edge_type| edge_type == 1).count();
+        let (code, xyz) = bwd(&pass);
+        refused += usize::from(code == 9);
+        if !types.contains(&1) && pairs.iter().any(|&pair| unlike(&pass, pair)) {
+            assert_eq!(code, 0, "question 9 is asked of no share: {pass:?}");
+            assert_eq!(bits(&xyz), bits(&pass.dldw_vtx2xyz), "{pass:?}");
+            quiet += 1;
+        }
+    }
+    println!("{ones} pairs of type 1; bwd refuses {refused} scenes with 9; {quiet} have unequal pairs, all of type 0");
+    assert!(ones > 10_000 && refused > 1_000 && quiet > 20);
+}
+
+/// The unchanged file gives another type only at pairs where a face has no weights: 1, and ours is 0.
+#[cfg(listed)]
+#[test]
+fn the_listed_types_differ_only_without_weights() {
+    let (mut unweighed, mut other) = (0, 0);
+    for pass in passes() {
+        let (code, left) = edges(&pass);
+        if code != 0 {
+            continue;
+        }
+        let ours = [left.hedge2type, left.vedge2type].concat();
+        let (types, dldrs) =
+            comparison::reference::edge_gradient_and_type_as_listed(&pass).expect("it runs too");
+        same(&left.hedge2dldr, &dldrs[0], &pass.hedge2dldr, |_| true);
+        same(&left.vedge2dldr, &dldrs[1], &pass.vedge2dldr, |_| true);
+        let pairs = hedges(&pass).chain(vedges(&pass));
+        for (pair, (ours, listed)) in pairs.zip(ours.into_iter().zip(types.concat())) {
+            let none = unlike(&pass, pair) && comparison::pairs::without_weights(&pass, pair);
+            assert!(ours == listed || none, "{pair:?} of {pass:?}");
+            assert!(ours == listed || [ours, listed] == [0, 1], "{pair:?}");
+            unweighed += usize::from(none);
+            other += usize::from(ours != listed);
+        }
+    }
+    println!("{unweighed} unequal pairs have a face without weights, {other} of them another type");
+    assert!(other > 500 && unweighed > other);
+}
+
+/// The smallest scene in which the listed type is another (docs/DIFFERENCES.md): a floor, and on its edge a wall, seen
+/// edge on, beside it in the map. No centre is inside: type 0, and `bwd` adds nothing.
+#[cfg(listed)]
+#[test]
+fn a_face_seen_edge_on_is_no_edge() {
+    let mut pass = pass(0);
+    (pass.img_w, pass.img_h, pass.num_vdim) = (2, 1, 1);
+    pass.tri2vtx = vec![0, 1, 2, 0, 1, 3];
+    pass.vtx2xyz = vec![0., 0., 0., 1., 0., 0., 0., 1., 0., 0., 0., 1.];
+    pass.transform_world2pix = std::array::from_fn(|at| f32::from(u8::from(at % 5 == 0)));
+    (pass.pix2tri, pass.pix2val, pass.dldw_pix2val) = (vec![0, 1], vec![1.0, 0.0], vec![1.0, 1.0]);
+    (pass.hedge2type, pass.hedge2dldr) = (vec![], vec![]);
+    (pass.vedge2type, pass.vedge2dldr) = (vec![7], vec![7.0]);
+    pass.dldw_vtx2xyz = vec![0.5; 12];
+    let (code, left) = edges(&pass);
+    assert_eq!(
+        (code, left.vedge2type, left.vedge2dldr),
+        (0, vec![0], vec![1.0])
+    );
+    let (types, dldrs) =
+        comparison::reference::edge_gradient_and_type_as_listed(&pass).expect("accepted");
+    assert_eq!(
+        (types, dldrs),
+        ([vec![], vec![1]], [vec![], vec![1.0]]),
+        "the listed type is 1"
+    );
+    assert_eq!(bwd(&pass), (0, pass.dldw_vtx2xyz.clone()));
+    let listed = comparison::reference::bwd_as_listed(&pass);
+    assert_eq!(listed, Some(pass.dldw_vtx2xyz), "nor does the listed bwd");
+}
+
 fn bwd(pass: &Pass) -> (u32, Vec<f32>) {
     let mut dldw_vtx2xyz = pass.dldw_vtx2xyz.clone();
     let answer = paqelzim::bwd(
@@ -239,7 +325,7 @@ fn edges_backward_refused() {
     seen.is_all_of(&[0, 1, 2, 3, 4, 6, 7, 8, 9]);
 }
 
-/// Beside the listed file, changed where 01 decides otherwise; question 9 is asked of that file itself, and is no
+/// Beside the listed file, changed where the documents decide otherwise; question 9 is asked of that file itself, and is no
 /// exactly where it would panic.
 #[cfg(listed)]
 #[test]
@@ -273,7 +359,7 @@ fn the_listed_file_differs_only_where_faces_cross() {
             continue;
         }
         let listed = comparison::reference::bwd_as_listed(&pass).expect("it runs too");
-        let second = comparison::crossing::second_corners(&pass);
+        let second = comparison::pairs::second_corners(&pass);
         let mut differs = false;
         for (at, (ours, listed)) in ours.iter().zip(&listed).enumerate() {
             let equal = ours.to_bits() == listed.to_bits() || ours.is_nan() && listed.is_nan();

@@ -12,6 +12,9 @@ use borrow.Author.Needs.{needs}
 use Rattle.shares.proofs.scatter_between.Statement.{statement}
 use Rattle.shares.proofs.scatter_between.Tie as tie
 
+face-contains-requires : tie.Need-face-contains-requires
+face-contains-requires c κs = let s = c .before .before .before in (s .pre .0, s .pre .1 .1 .0 .there)
+
 scatter-intersection-gradient-requires : tie.Need-scatter-intersection-gradient-requires
 scatter-intersection-gradient-requires c κs = let s = c .before .before .before .before .before .before .before .before .before .before in (sound-again (s .pre .0) (s .pre .1 .1 .1), (s .pre .1 .0 .there, s .pre .1 .1 .0 .there))
 
@@ -24,7 +27,7 @@ returns c =
     let s = a .before .before .before .before .before in
     let o0 = b .before .before .tri-new .ensures in
     rw (
-      both-contain (s .args .axis) (s .args .m .now) (s .args .vtx2xyz .now) (faceAt (s .args .tri2vtx .now) (s .args .i0)) (faceAt (s .args .tri2vtx .now) (s .args .i1)) (point2 (s .args .q0)) (point2 (s .args .q1)) o0 (n .tri-new2 .ensures) (so (a .before .inside .ensures) (a .if1 .taken))
+      both-contain (s .args .axis) (s .args .m .now) (s .args .vtx2xyz .now) (faceAt (s .args .tri2vtx .now) (s .args .i0)) (faceAt (s .args .tri2vtx .now) (s .args .i1)) (point2 (s .args .q0)) (point2 (s .args .q1)) o0 (n .tri-new2 .ensures) (so (a .before .face-contains .ensures) (a .if1 .taken))
           (inside-is o0 (point2 (s .args .q1)) ∙ so (b .before .is-inside .ensures) (b .if2 .taken)),
       ← (crossing-adds o0 (n .tri-new2 .ensures) (s .args .axis) (point2 (s .args .q0)) (point2 (s .args .q1)) (s .args .d)),
     )
@@ -41,19 +44,22 @@ returns-2 c =
     let s = a .before .before .before .before .before in
     let o0 = b .before .before .tri-new .ensures in
     rw (
-      second-contains (s .args .axis) (s .args .m .now) (s .args .vtx2xyz .now) (faceAt (s .args .tri2vtx .now) (s .args .i0)) (faceAt (s .args .tri2vtx .now) (s .args .i1)) (point2 (s .args .q0)) (point2 (s .args .q1)) (so (a .before .inside .ensures) (a .if1 .taken))
+      second-contains (s .args .axis) (s .args .m .now) (s .args .vtx2xyz .now) (faceAt (s .args .tri2vtx .now) (s .args .i0)) (faceAt (s .args .tri2vtx .now) (s .args .i1)) (point2 (s .args .q0)) (point2 (s .args .q1)) (so (a .before .face-contains .ensures) (a .if1 .taken))
           (inside-is o0 (point2 (s .args .q1)) ∙ so (b .before .is-inside .ensures) (b .if2 .left)),
       ← (one-adds o0 (s .args .d) (point2 (s .args .q0)) (along (s .args .axis))),
       ← (k .before .along .ensures),
     )
     (k .scatter .ensures)
 
+face-contains-requires-2 : tie.Need-face-contains-requires-2
+face-contains-requires-2 c κs = let s = c .before .before .before .before .before in (s .pre .0, s .pre .1 .0 .there)
+
 returns-3 : tie.Need-returns-3
 unfolding summed flatMap
 returns-3 c =
     let a = c .before .before in
     let s = a .before .before .before .before .before in
-    rw (neither-contains (s .args .axis) (s .args .m .now) (s .args .vtx2xyz .now) (faceAt (s .args .tri2vtx .now) (s .args .i0)) (faceAt (s .args .tri2vtx .now) (s .args .i1)) (point2 (s .args .q0)) (point2 (s .args .q1)) (so (a .before .inside .ensures) (a .if1 .left)) (said-no (c .before .inside2 .ensures) (c .if3 .taken)))
+    rw (neither-contains (s .args .axis) (s .args .m .now) (s .args .vtx2xyz .now) (faceAt (s .args .tri2vtx .now) (s .args .i0)) (faceAt (s .args .tri2vtx .now) (s .args .i1)) (point2 (s .args .q0)) (point2 (s .args .q1)) (so (a .before .face-contains .ensures) (a .if1 .left)) (said-no (c .before .face-contains2 .ensures) (c .if3 .taken)))
 
 scatter-requires-2 : tie.Need-scatter-requires-2
 scatter-requires-2 c κs = let s = c .before .before .before .before .before .before .before .before .before .before in (sound-again (s .pre .0) (s .pre .1 .1 .1), s .pre .1 .1 .0 .there)
@@ -66,7 +72,7 @@ returns-4 c =
     let a = b .before .before in
     let s = a .before .before .before .before .before in
     rw (
-      first-contains (s .args .axis) (s .args .m .now) (s .args .vtx2xyz .now) (faceAt (s .args .tri2vtx .now) (s .args .i0)) (faceAt (s .args .tri2vtx .now) (s .args .i1)) (point2 (s .args .q0)) (point2 (s .args .q1)) (so (a .before .inside .ensures) (a .if1 .left)) (said-yes (b .before .inside2 .ensures) (b .if3 .left)),
+      first-contains (s .args .axis) (s .args .m .now) (s .args .vtx2xyz .now) (faceAt (s .args .tri2vtx .now) (s .args .i0)) (faceAt (s .args .tri2vtx .now) (s .args .i1)) (point2 (s .args .q0)) (point2 (s .args .q1)) (so (a .before .face-contains .ensures) (a .if1 .left)) (said-yes (b .before .face-contains2 .ensures) (b .if3 .left)),
       ← (one-adds (n .tri-new3 .ensures) (s .args .d) (point2 (s .args .q1)) (along (s .args .axis))),
       ← (k .before .along2 .ensures),
     )
@@ -75,6 +81,6 @@ returns-4 c =
 pub scatter-between-spec : {M : Type 1} → statement M
 scatter-between-spec =
     tie.close
-    (tie.spec (λ c κs. search needs) (λ c κs. search needs) (λ c κs. search needs) (λ c κs. search needs) scatter-intersection-gradient-requires
-    (λ c. search needs) returns (λ c κs. search needs) scatter-requires (λ c. search needs) returns-2 (λ c κs. search needs) returns-3
+    (tie.spec face-contains-requires (λ c κs. search needs) (λ c κs. search needs) (λ c κs. search needs) scatter-intersection-gradient-requires
+    (λ c. search needs) returns (λ c κs. search needs) scatter-requires (λ c. search needs) returns-2 face-contains-requires-2 returns-3
     (λ c κs. search needs) (λ c κs. search needs) scatter-requires-2 (λ c. search needs) returns-4)

@@ -11,7 +11,7 @@ use Rattle.meshes.specs.Mesh.{vertexAt, faceAt}
 use Rattle.meshes.specs.View.{viewOf, named}
 use Rattle.pixels.specs.Pixel.{centre, centreOf}
 use Rattle.pixels.specs.Edge.{edgeAt}
-use Rattle.inside.specs.Inside.{allAtLeastZero, allAtMostZero, inside, allThree, projectFace, weightsIn, contains, present, projects}
+use Rattle.inside.specs.Inside.{allAtLeastZero, allInside, allThree, projectFace, weightsIn, contains, present, projects}
 use Rattle.pairs.specs.Pairs.{edgeView, answered, allAnswered}
 use Rattle.pairs.specs.Gradient.{pixelValues, exactPixels, channelTerm, dldr}
 use Rattle.edge_types.specs.Types.{firstInSecond, secondInFirst, typeOf}
@@ -21,7 +21,7 @@ use Rattle.sequences.specs.Example.{zero, one, quarter, matrix, corners}
 
 -- T(0.25), 2 × 1, one channel, values 1, 0, incoming 1, 1; the buffers hold 9 and NaN before
 unfoldable pub typed : List ℕ → Outcome EdgeBuffers
-unfolding firstNo sizes channels groups exact every namesFace tabulate vertexAt faceAt named centre centreOf edgeAt cross2 areas total overTotal row over weighed weighedAll cornerWeights divided project allAtLeastZero allAtMostZero inside allThree projectFace weightsIn contains present projects firstInSecond secondInFirst typeOf answered allAnswered sumOf channelTerm dldr exactPixels edgesOf edgeCode edgeTyping add sub mul div neg lt le eq ofBits ofInt
+unfolding firstNo sizes channels groups exact every namesFace tabulate vertexAt faceAt named centre centreOf edgeAt cross2 areas total overTotal row over weighed weighedAll cornerWeights divided project allAtLeastZero allInside allThree projectFace weightsIn contains present projects firstInSecond secondInFirst typeOf answered allAnswered sumOf channelTerm dldr exactPixels edgesOf edgeCode edgeTyping add sub mul div neg lt le eq ofBits ofInt
 typed map =
     edgeTyping (0 ∷ 1 ∷ 2 ∷ []) map 1 (edgeView (viewOf (0 ∷ 1 ∷ 2 ∷ []) map) (matrix zero one) (corners quarter) 2) (pixelValues (one ∷ zero ∷ []) (one ∷ one ∷ []) 1)
     (edgeBuffers (axisBuffers [] []) (axisBuffers (9 ∷ []) (nan ∷ [])))

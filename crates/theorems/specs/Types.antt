@@ -1,0 +1,73 @@
+-- 02, Point 4: what the type of a pair says of `bwd`. The law is about the test of `bwd`, so no question is asked.
+use Prim.Native.Nat.{ℕ}
+use mathlib.Core.Path.{_≡_, refl, _∙_}
+use mathlib.Core.Bool.{Bool, true, false, _||_, cond}
+use mathlib.Core.List.{List, [], flatMap}
+use native.Mathlib.Omega.{arith}
+use Rattle.meshes.specs.Sums.{Addition}
+use Rattle.pixels.specs.Pixel.{centreOf}
+use Rattle.pixels.specs.Edge.{Axis, Edge}
+use Rattle.pairs.specs.Pairs.{EdgeView, firstOf, secondOf, equalEntries}
+use Rattle.pairs.specs.Gradient.{PixelValues}
+use Rattle.edge_types.specs.Types.{firstInSecond, secondInFirst, typeOf}
+use Rattle.share_rules.specs.Shares.{Share, alone, intersection, received, between, sharesAt}
+use Rattle.share_rules.specs.Additions.{pairAdditions}
+
+-- what `bwd` picks for an unequal pair by these two answers
+abbrev Picked : Axis → EdgeView → Edge → List Share
+Picked a s e =
+    let g0 = s .view .at (firstOf (s .width) e) in
+    let g1 = s .view .at (secondOf (s .width) e) in
+    cond (equalEntries s e) []
+    (received (firstInSecond s e) (secondInFirst s e) (intersection (a .down) (s .matrix) (s .vertices) g0 g1 (centreOf (e .first)) (centreOf (e .second)))
+    (alone (a .down) g0 (centreOf (e .first))) (alone (a .down) g1 (centreOf (e .second))))
+
+-- an unequal pair where at least one centre is inside
+abbrev pub OneInside : EdgeView → Edge → Type 0
+OneInside s e = (equalEntries s e ≡ false) × ((firstInSecond s e || secondInFirst s e) ≡ true)
+
+pub record TypeSays (a : Axis) (s : EdgeView) (v : PixelValues) (e : Edge) : Type 0 where
+  -- the test is that of `bwd`
+  pub picked : sharesAt a s e ≡ Picked a s e
+  -- "Type 1 then stands exactly at the unequal pairs where the test of `bwd` has at least one centre inside"
+  pub one : (typeOf s e ≡ 1 → OneInside s e) × (OneInside s e → typeOf s e ≡ 1)
+  -- a pair of type 0 adds nothing in `bwd`
+  pub nothing : typeOf s e ≡ 0 → pairAdditions a s v e ≡ []
+
+-- the type, by whether the entries are equal and a centre is inside
+abbrev type : Bool → Bool → ℕ
+type equal inside = cond equal 0 (cond inside 1 0)
+
+one-only : (equal inside : Bool) → type equal inside ≡ 1 → (equal ≡ false) × (inside ≡ true)
+one-only true inside e = absurd (omega (arith, e))
+one-only false true e = (refl, refl)
+one-only false false e = absurd (omega (arith, e))
+
+one-there : (equal inside : Bool) → equal ≡ false → inside ≡ true → type equal inside ≡ 1
+one-there equal inside p q = rw (p, q)
+
+none-received : (equal first second : Bool) (both one other : List Share) → type equal (first || second) ≡ 0
+    → cond equal [] (received first second both one other) ≡ []
+unfolding received
+none-received true first second both one other e = refl
+none-received false true second both one other e = absurd (omega (arith, e))
+none-received false false true both one other e = absurd (omega (arith, e))
+none-received false false false both one other e = refl
+
+module _ (a : Axis) (s : EdgeView) (e : Edge) where
+  picked : sharesAt a s e ≡ Picked a s e
+  unfolding sharesAt between firstInSecond secondInFirst
+  picked = refl
+
+  no-shares : typeOf s e ≡ 0 → sharesAt a s e ≡ []
+  unfolding typeOf
+  no-shares zero = picked ∙ none-received (equalEntries s e) (firstInSecond s e) (secondInFirst s e) _ _ _ zero
+
+pub type-says : (a : Axis) (s : EdgeView) (v : PixelValues) (e : Edge) → TypeSays a s v e
+unfolding typeOf pairAdditions flatMap
+type-says a s v e =
+    record {
+      picked = picked a s e;
+      one = (one-only _ _, λ p. one-there _ _ (p .0) (p .1));
+      nothing = λ zero. rw (no-shares a s e zero);
+    }
