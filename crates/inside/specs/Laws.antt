@@ -1,7 +1,7 @@
 -- Where every vertex has a projection, so has every face.
 use Prim.Native.Nat.{ℕ, _+_, _*_, _/_, _<_}
 use mathlib.Core.Path.{_≡_, refl}
-use mathlib.Core.Bool.{Bool, true, false, cond}
+use mathlib.Core.Bool.{Bool, true, false, _&&_, cond}
 use mathlib.Core.Option.{Option, none, some}
 use mathlib.Core.List.{List}
 use native.Mathlib.Omega.{arith}
@@ -19,12 +19,12 @@ use Rattle.meshes.specs.Sound.{SoundMesh}
 use Rattle.inside.specs.Inside.{allThree, projectFace, present, projects}
 use Rattle.inside.specs.Steps.{allProject}
 
-all-three-present : {A : Type 0} (a b c : Option A) → present a ≡ true → present b ≡ true → present c ≡ true → present (allThree a b c) ≡ true
+pub all-three : {A : Type 0} (a b c : Option A) → present (allThree a b c) ≡ (present a && (present b && present c))
 unfolding allThree present
-all-three-present none b c ea eb ec = ea
-all-three-present (some a) none c ea eb ec = eb
-all-three-present (some a) (some b) none ea eb ec = ec
-all-three-present (some a) (some b) (some c) ea eb ec = refl
+all-three none b c = refl
+all-three (some a) none c = refl
+all-three (some a) (some b) none = refl
+all-three (some a) (some b) (some c) = refl
 
 module _ {tri : List ℕ} (m : List Float) {xyz : List Float} (s : SoundMesh tri xyz) (yes : allProject m xyz ≡ true) where
   corner-projects : (j : ℕ) → j < length tri → present (project m (vertexAt xyz (getD tri j 0))) ≡ true
@@ -41,4 +41,9 @@ module _ {tri : List ℕ} (m : List Float) {xyz : List Float} (s : SoundMesh tri
       go false k =
           let there = face-below (length tri / 3) x e (eqb-false x empty k) in
           let long = s .faces in
-          all-three-present _ _ _ (corner-projects (3 * x) (omega arith)) (corner-projects (3 * x + 1) (omega arith)) (corner-projects (3 * x + 2) (omega arith))
+          rw (
+            all-three _ _ _,
+            corner-projects (3 * x) (omega arith),
+            corner-projects (3 * x + 1) (omega arith),
+            corner-projects (3 * x + 2) (omega arith),
+          )

@@ -12,19 +12,12 @@ ghost use Rattle.geometry.specs.Leaf.{project};
 ghost use Rattle.meshes.specs.Mesh.{faceAt, vertexAt};
 ghost use Rattle.meshes.specs.View.{named};
 ghost use Rattle.inside.specs.Inside as spec;
-ghost use Rattle.inside.specs.Answer.{projectedFaceOf};
 ghost use Rattle.meshes.specs.Sound.{SoundMesh};
 ghost use Rattle.inside.specs.Steps.{allProject};
 use geometry::CornerWeights;
 use geometry::Projected;
 use geometry::Projection;
 use geometry::Vec2;
-
-// The projected corners of a face, or nothing where one has no projection.
-pub enum ProjectedFace {
-    Corners(Projected, Projected, Projected),
-    Nowhere,
-}
 
 fn all_at_least_zero(b0: f32, b1: f32, b2: f32) -> bool
     ensures { λ r. ⌜ r ≡ spec.allAtLeastZero (weights b0 b1 b2) ⌝ }
@@ -54,24 +47,6 @@ fn corner(tri2vtx: &[u32], vtx2xyz: &[f32], m: &[f32; 16], j: usize) -> Projecti
     ensures { λ r. ⌜ projectionOf r ≡ project (now (m .entry)) (vertexAt (now (vtx2xyz .entry)) (getD (now (tri2vtx .entry)) j 0)) ⌝ }
 {
     geometry::project(m, meshes::vertex(vtx2xyz, tri2vtx[j] as usize))
-}
-
-fn project_face(tri2vtx: &[u32], vtx2xyz: &[f32], m: &[f32; 16], face: usize) -> ProjectedFace
-    requires { ⌜ SoundMesh (now tri2vtx) (now vtx2xyz) ⌝ }
-    requires { ⌜ face < length (now tri2vtx) / 3 ⌝ }
-    ensures { λ r. ⌜ projectedFaceOf r ≡ spec.projectFace (now (m .entry)) (now (vtx2xyz .entry)) (faceAt (now (tri2vtx .entry)) face) ⌝ }
-{
-    let i = 3 * face;
-    let Projection::At(p0) = corner(tri2vtx, vtx2xyz, m, i) else {
-        return ProjectedFace::Nowhere;
-    };
-    let Projection::At(p1) = corner(tri2vtx, vtx2xyz, m, i + 1) else {
-        return ProjectedFace::Nowhere;
-    };
-    let Projection::At(p2) = corner(tri2vtx, vtx2xyz, m, i + 2) else {
-        return ProjectedFace::Nowhere;
-    };
-    ProjectedFace::Corners(p0, p1, p2)
 }
 
 // The weights of q in the triangle of three projected corners.
@@ -143,6 +118,31 @@ pub fn all_project(vtx2xyz: &[f32], m: &[f32; 16]) -> bool
     true
 }
 
+// Has the vertex that a face has at place j of the face list a projection?
+fn corner_projects(tri2vtx: &[u32], vtx2xyz: &[f32], m: &[f32; 16], j: usize) -> bool
+    requires { ⌜ SoundMesh (now tri2vtx) (now vtx2xyz) ⌝ }
+    requires { ⌜ j < length (now tri2vtx) ⌝ }
+    ensures { λ r. ⌜ r ≡ spec.present (project (now (m .entry)) (vertexAt (now (vtx2xyz .entry)) (getD (now (tri2vtx .entry)) j 0))) ⌝ }
+{
+    vertex_projects(vtx2xyz, m, tri2vtx[j] as usize)
+}
+
+// Has face number `face` every projection?
+fn face_projects(tri2vtx: &[u32], vtx2xyz: &[f32], m: &[f32; 16], face: usize) -> bool
+    requires { ⌜ SoundMesh (now tri2vtx) (now vtx2xyz) ⌝ }
+    requires { ⌜ face < length (now tri2vtx) / 3 ⌝ }
+    ensures { λ r. ⌜ r ≡ spec.projects (now (m .entry)) (now (vtx2xyz .entry)) (some (faceAt (now (tri2vtx .entry)) face)) ⌝ }
+{
+    let i = 3 * face;
+    if !corner_projects(tri2vtx, vtx2xyz, m, i) {
+        return false;
+    }
+    if !corner_projects(tri2vtx, vtx2xyz, m, i + 1) {
+        return false;
+    }
+    corner_projects(tri2vtx, vtx2xyz, m, i + 2)
+}
+
 // Has what a map's entry names every projection? An empty entry has none to ask.
 pub fn projects(tri2vtx: &[u32], vtx2xyz: &[f32], m: &[f32; 16], entry: u32) -> bool
     requires { ⌜ SoundMesh (now tri2vtx) (now vtx2xyz) ⌝ }
@@ -152,8 +152,5 @@ pub fn projects(tri2vtx: &[u32], vtx2xyz: &[f32], m: &[f32; 16], entry: u32) -> 
     if entry == questions::EMPTY {
         return true;
     }
-    match project_face(tri2vtx, vtx2xyz, m, entry as usize) {
-        ProjectedFace::Corners(_, _, _) => true,
-        ProjectedFace::Nowhere => false,
-    }
+    face_projects(tri2vtx, vtx2xyz, m, entry as usize)
 }

@@ -12,7 +12,7 @@ use Rattle.cells.specs.Layer.{layer}
 use Rattle.roots.specs.Root.{root}
 use Rattle.sequences.specs.Example.{zero, one, minusOne, quarter, corners, four, blank, drawing}
 use Rattle.theorems.specs.Examples.Values.{word, showing}
-use Rattle.theorems.specs.Examples.Edges.{typed, typedAs}
+use Rattle.theorems.specs.Examples.Edges.{typedOf, typed, typedAs}
 
 pub record Marked : Type 0 where
   -- T(0.25): four pixels, number 0, depth 0.25.
@@ -37,7 +37,7 @@ pub record Marked : Type 0 where
       × (drawing blank (0 ∷ 1 ∷ 2 ∷ []) (corners quarter) zero one .code ≡ 0)
 
 pub marked : Marked
-unfolding drawing showing typed root ofBits
+unfolding drawing showing typedOf root ofBits
 marked =
     record {
       one-face = refl;
