@@ -100,8 +100,10 @@ uint32_t paqelzim_interpolate_bwd(size_t img_w, size_t img_h,
 
 /* Gives every pair of neighbouring pixels a type and a gradient: hedges between a pixel and the one below it, vedges
  * between a pixel and the one to its right. Where the map's entries are equal the type is 0, else 1 where one centre
- * at least lies inside the other's face; an empty neighbour contains every point. The gradient is that of the edge moved
- * right or down: over the channels, the mean of the two incoming gradients times the difference of the values.
+ * at least lies inside the other's face, its weights there all >= 0. A face seen edge on has no weights and contains no
+ * point; an empty neighbour contains every point. The test is that of paqelzim_bwd, where a pair of type 0 adds nothing.
+ * The gradient is that of the edge moved right or down: over the channels, the mean of the two incoming gradients
+ * times the difference of the values.
  * Writes: every place of the four edge slices.
  * Questions: 1; 2; 3; 4: pix2tri has img_w * img_h elements, pix2val and dldw_pix2val num_vdim for each pixel, the hedge
  * slices (img_h - 1) * img_w, the vedge slices img_h * (img_w - 1); 6; 7; 8: the corners of both faces of each pair of

@@ -65,9 +65,11 @@ mod ffi {
 /// Gives each pair of neighbouring pixels a type and a gradient: the pairs one above the other (`hedge`) and those
 /// side by side (`vedge`).
 ///
-/// The type is 0 where the map's entries are equal; else 1 where one centre at least lies inside the other's face, and
-/// an empty neighbour contains every point. The gradient `dldr` is that of the edge between the two, moved right or
-/// down: the sum over the channels of the mean of the two incoming gradients times the difference of the values.
+/// The type is 0 where the map's entries are equal; else 1 where one centre at least lies inside the other's face, its
+/// weights there all at least 0. A face seen edge on has no weights and contains no point; an empty neighbour contains
+/// every point. The test is that of [`bwd`], where a pair of type 0 adds nothing, whether or not it accepts. The gradient
+/// `dldr` is that of the edge between the two, moved right or down: the sum over the channels of the mean of the two
+/// incoming gradients times the difference of the values.
 ///
 /// Writes: every place of the four edge slices.
 ///
@@ -86,6 +88,13 @@ mod ffi {
 ///     &mut [], &mut [], &mut vedge2type, &mut vedge2dldr,
 /// )?;
 /// assert_eq!((vedge2type, vedge2dldr), ([1], [1.]));
+/// // A floor beside a wall on its edge, seen edge on: neither contains the other's centre.
+/// let vtx2xyz = [0., 0., 0., 1., 0., 0., 0., 1., 0., 0., 0., 1.];
+/// paqelzim::edge_gradient_and_type(
+///     &[0, 1, 2, 0, 1, 3], &vtx2xyz, &identity, 2, 1, &[0, 1], 1, &[1., 0.], &[1., 1.],
+///     &mut [], &mut [], &mut vedge2type, &mut vedge2dldr,
+/// )?;
+/// assert_eq!((vedge2type, vedge2dldr), ([0], [1.]));
 /// # Ok::<(), paqelzim::Refusal>(())
 /// ```
 #[allow(clippy::too_many_arguments)]

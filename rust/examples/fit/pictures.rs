@@ -46,8 +46,8 @@ fn squares(img_w: usize, rgb: &[u8]) -> Vec<u8> {
         .collect()
 }
 
-/// The picture darkened, and on it the pixels beside an edge of type 1: red where the residual rises as the edge goes
-/// right or down, blue where it falls.
+/// The picture darkened, and on it the pixels beside an edge of type 1, where the test of `bwd` has a centre inside: a face
+/// seen edge on has none. Red where the residual rises as the edge goes right or down, blue where it falls.
 fn edges(scene: &Scene, seen: &Seen) -> Result<Vec<f32>, Box<dyn Error>> {
     let (img_w, img_h) = (scene.camera.img_w, scene.camera.img_h);
     let (num_h, num_v) = ((img_h - 1) * img_w, img_h * (img_w - 1));

@@ -125,6 +125,20 @@ static void edges(void) {
     expect(none_type[0] == 9 && none_dldr[0] == 9.0f, "nothing beside the slices is written");
 }
 
+/* The same beside a wall on a floor's edge, seen edge on: neither contains the other's centre, and nothing is added. */
+static void seen_edge_on(void) {
+    const uint32_t faces[6] = {0, 1, 2, 0, 1, 3}, map[2] = {0, 1};
+    const float corner[12] = {0, 0, 0, 1, 0, 0, 0, 1, 0, 0, 0, 1};
+    const float pixels[2] = {1.0f, 0.0f}, incoming[2] = {1.0f, 1.0f};
+    uint8_t none_type[1] = {9}, type[1] = {9};
+    float none_dldr[1] = {9.0f}, dldr[1] = {9.0f}, sums[12] = {0, 0, 0, 0, 0, 0, 0, 0, 0, 0, 0, 0};
+    expect(paqelzim_edge_gradient_and_type(faces, 6, corner, 12, identity, 2, 1, map, 2, 1, pixels, 2, incoming, 2,
+                                           none_type, 0, none_dldr, 0, type, 1, dldr, 1) == 0, "a face seen edge on");
+    expect(type[0] == 0 && dldr[0] == 1.0f, "type 0, dldr 1, beside a face without weights");
+    expect(paqelzim_bwd(faces, 6, corner, 12, sums, 12, identity, 2, 1, map, 2, 1, pixels, 2, incoming, 2) == 0, "its backward");
+    for (int i = 0; i < 12; i++) expect(sums[i] == 0.0f, "a pair of type 0 adds nothing");
+}
+
 /* 3 x 1: the face ends between pixels 1 and 2, and the gradient 1 goes to its corners by the weights of pixel 1's
  * centre, 0, 5/8 and 3/8. */
 static void edges_backward(void) {
@@ -167,6 +181,7 @@ int main(void) {
     layers();
     values();
     edges();
+    seen_edge_on();
     edges_backward();
     velocities();
     drawing();
