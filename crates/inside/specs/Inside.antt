@@ -11,7 +11,7 @@ use Rattle.meshes.specs.Mesh.{Face, vertexAt}
 unfoldable pub allAtLeastZero : Weights Float → Bool
 allAtLeastZero b = le (floats .zero) (b .b0) && (le (floats .zero) (b .b1) && le (floats .zero) (b .b2))
 
--- "In `bwd` the weights must all be ≥ 0 and none means outside." 02, Point 4: "The type call must use the test of `bwd`".
+-- "In `bwd` the weights must all be ≥ 0 and none means outside." By Point 4 of 02 it is the type call's test, too.
 unfoldable pub allInside : Option (Weights Float) → Bool
 allInside none = false
 allInside (some b) = allAtLeastZero b

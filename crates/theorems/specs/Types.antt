@@ -4,7 +4,6 @@ use mathlib.Core.Path.{_≡_, refl, _∙_}
 use mathlib.Core.Bool.{Bool, true, false, _||_, cond}
 use mathlib.Core.List.{List, [], flatMap}
 use native.Mathlib.Omega.{arith}
-use Rattle.meshes.specs.Sums.{Addition}
 use Rattle.pixels.specs.Pixel.{centreOf}
 use Rattle.pixels.specs.Edge.{Axis, Edge}
 use Rattle.pairs.specs.Pairs.{EdgeView, firstOf, secondOf, equalEntries}
@@ -13,9 +12,9 @@ use Rattle.edge_types.specs.Types.{firstInSecond, secondInFirst, typeOf}
 use Rattle.share_rules.specs.Shares.{Share, alone, intersection, received, between, sharesAt}
 use Rattle.share_rules.specs.Additions.{pairAdditions}
 
--- what `bwd` picks for an unequal pair by these two answers
-abbrev Picked : Axis → EdgeView → Edge → List Share
-Picked a s e =
+-- the shares of a pair, picked by the two answers that make its type
+abbrev pub picked : Axis → EdgeView → Edge → List Share
+picked a s e =
     let g0 = s .view .at (firstOf (s .width) e) in
     let g1 = s .view .at (secondOf (s .width) e) in
     cond (equalEntries s e) []
@@ -27,10 +26,12 @@ abbrev pub OneInside : EdgeView → Edge → Type 0
 OneInside s e = (equalEntries s e ≡ false) × ((firstInSecond s e || secondInFirst s e) ≡ true)
 
 pub record TypeSays (a : Axis) (s : EdgeView) (v : PixelValues) (e : Edge) : Type 0 where
-  -- the test is that of `bwd`
-  pub picked : sharesAt a s e ≡ Picked a s e
-  -- "Type 1 then stands exactly at the unequal pairs where the test of `bwd` has at least one centre inside"
+  -- the test is that of `bwd`: so picked, they are its shares
+  pub tested : sharesAt a s e ≡ picked a s e
+  -- type 1 stands at the pairs where it has a centre inside, and nowhere else ..
   pub one : (typeOf s e ≡ 1 → OneInside s e) × (OneInside s e → typeOf s e ≡ 1)
+  -- .. which have type 0
+  pub zero : (OneInside s e → ⊥) → typeOf s e ≡ 0
   -- a pair of type 0 adds nothing in `bwd`
   pub nothing : typeOf s e ≡ 0 → pairAdditions a s v e ≡ []
 
@@ -46,6 +47,11 @@ one-only false false e = absurd (omega (arith, e))
 one-there : (equal inside : Bool) → equal ≡ false → inside ≡ true → type equal inside ≡ 1
 one-there equal inside p q = rw (p, q)
 
+else-zero : (equal inside : Bool) → ((equal ≡ false) × (inside ≡ true) → ⊥) → type equal inside ≡ 0
+else-zero true inside never = refl
+else-zero false true never = absurd (never (refl, refl))
+else-zero false false never = refl
+
 none-received : (equal first second : Bool) (both one other : List Share) → type equal (first || second) ≡ 0
     → cond equal [] (received first second both one other) ≡ []
 unfolding received
@@ -55,19 +61,20 @@ none-received false false true both one other e = absurd (omega (arith, e))
 none-received false false false both one other e = refl
 
 module _ (a : Axis) (s : EdgeView) (e : Edge) where
-  picked : sharesAt a s e ≡ Picked a s e
+  tested : sharesAt a s e ≡ picked a s e
   unfolding sharesAt between firstInSecond secondInFirst
-  picked = refl
+  tested = refl
 
   no-shares : typeOf s e ≡ 0 → sharesAt a s e ≡ []
   unfolding typeOf
-  no-shares zero = picked ∙ none-received (equalEntries s e) (firstInSecond s e) (secondInFirst s e) _ _ _ zero
+  no-shares zero = tested ∙ none-received (equalEntries s e) (firstInSecond s e) (secondInFirst s e) _ _ _ zero
 
 pub type-says : (a : Axis) (s : EdgeView) (v : PixelValues) (e : Edge) → TypeSays a s v e
 unfolding typeOf pairAdditions flatMap
 type-says a s v e =
     record {
-      picked = picked a s e;
+      tested = tested a s e;
       one = (one-only _ _, λ p. one-there _ _ (p .0) (p .1));
+      zero = else-zero _ _;
       nothing = λ zero. rw (no-shares a s e zero);
     }

@@ -11,7 +11,7 @@ fn projected(m: &[f32; 16], x: &[f32]) -> Point {
     [y(0) / y(3), y(1) / y(3)]
 }
 
-/// "Either three weights a/s, or none, when s is 0 or not finite."
+/// The corner weights: none where their sum is 0 or not finite.
 fn weights([p0, p1, p2]: [Point; 3], q: Point) -> Option<[f32; 3]> {
     let twice_the_area =
         |b: Point, c: Point| (b[0] - q[0]) * (c[1] - q[1]) - (b[1] - q[1]) * (c[0] - q[0]);
@@ -50,7 +50,7 @@ fn weights_in(pass: &Pass, pixel: usize, other: usize) -> Option<Option<[f32; 3]
     Some(weights([0, 1, 2].map(corner), centre))
 }
 
-/// "In `bwd` the weights must all be ≥ 0 and none means outside."
+/// The test of both edge passes: none means outside.
 fn is_inside(weights: Option<[f32; 3]>) -> bool {
     weights.is_some_and(|b| b.iter().all(|&b| b >= 0.0))
 }
@@ -68,8 +68,7 @@ fn crosses(pass: &Pass, pair: Pair) -> bool {
     unlike(pass, pair) && both_inside(pass, pair) == [Some(true); 2]
 }
 
-/// "Type 1 then stands exactly at the unequal pairs where the test of `bwd` has at least one centre inside": an empty
-/// neighbour contains the point.
+/// 1 where the entries are unlike and a centre is inside, an empty neighbour containing each; else 0.
 pub fn edge_type(pass: &Pass, pair: Pair) -> u8 {
     let inside = both_inside(pass, pair).map(|inside| inside.unwrap_or(true));
     u8::from(unlike(pass, pair) && inside != [false; 2])
