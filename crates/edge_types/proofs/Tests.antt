@@ -1,6 +1,6 @@
 -- The type of a pair as the code reads it, once its tests are answered.
 use Prim.Native.Nat.{ℕ}
-use mathlib.Core.Path.{_≡_, sym, _∙_, ap₂}
+use mathlib.Core.Path.{_≡_, sym, _∙_, ap, ap₂}
 use mathlib.Core.Bool.{Bool, _||_, cond}
 use mathlib.Core.List.{List}
 use borrow.Author.Tests.{eq-eqb, ne-eqb}
@@ -27,18 +27,12 @@ module _ (tri : List ℕ) {map : List ℕ} (m xyz : List Float) {w h : ℕ} {e :
   unfolding typeOf
   equal-typed p = rw (entries ∙ eq-eqb _ _ p)
 
-  -- each test, of the point that the code asks it of
-  pub first-tested : {q : Vec2 Float} {b : Bool} → q ≡ centreOf (e .first) → contains allInside m xyz (named tri (r .second)) q ≡ b
-      → firstInSecond (edgeView (viewOf tri map) m xyz w) e ≡ b
-  unfolding firstInSecond
-  first-tested p t = ap₂ (λ (x : ℕ) (y : Vec2 Float). contains allInside m xyz (named tri x) y) (sym (k .second-entry)) (sym p) ∙ t
+  -- a test as the code asks it is a test of the definition
+  asked : {x y : ℕ} {p q : Vec2 Float} → x ≡ y → p ≡ q → contains allInside m xyz (named tri y) q ≡ contains allInside m xyz (named tri x) p
+  asked ex ep = rw (ex, ep)
 
-  pub second-tested : {q : Vec2 Float} {b : Bool} → q ≡ centreOf (e .second) → contains allInside m xyz (named tri (r .first)) q ≡ b
-      → secondInFirst (edgeView (viewOf tri map) m xyz w) e ≡ b
-  unfolding secondInFirst
-  second-tested p t = ap₂ (λ (x : ℕ) (y : Vec2 Float). contains allInside m xyz (named tri x) y) (sym (k .first-entry)) (sym p) ∙ t
-
-  pub unequal-typed : {a b : Bool} → (r .first ≡ r .second → ⊥) → firstInSecond (edgeView (viewOf tri map) m xyz w) e ≡ a
-      → secondInFirst (edgeView (viewOf tri map) m xyz w) e ≡ b → type ≡ cond (a || b) 1 0
-  unfolding typeOf
-  unequal-typed ne p q = rw (entries ∙ ne-eqb _ _ ne) (ap₂ (λ (a b : Bool). cond (a || b) 1 0) p q)
+  pub unequal-typed : {q0 q1 : Vec2 Float} {b : Bool} → (r .first ≡ r .second → ⊥) → q0 ≡ centreOf (e .first) → q1 ≡ centreOf (e .second)
+      → (contains allInside m xyz (named tri (r .second)) q0 || contains allInside m xyz (named tri (r .first)) q1) ≡ b → type ≡ cond b 1 0
+  unfolding typeOf firstInSecond secondInFirst
+  unequal-typed ne p q t =
+      rw (entries ∙ ne-eqb _ _ ne) (ap (λ (b : Bool). cond b 1 0) (ap₂ _||_ (asked (k .second-entry) p) (asked (k .first-entry) q) ∙ t))

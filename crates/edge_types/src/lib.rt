@@ -2,15 +2,43 @@
 // to its second. No function here is a public call.
 
 ghost use mathlib.Core.Path.{_≡_};
-ghost use Prim.Native.Nat.{_*_, _≤_};
-ghost use Rattle.meshes.specs.View.{viewOf};
-ghost use Rattle.meshes.specs.Sound.{SoundMap};
+ghost use mathlib.Core.Bool.{true, _||_};
+ghost use Prim.Native.Nat.{_*_, _/_, _≤_};
+ghost use lib.ListN.{length};
+ghost use Rattle.questions.specs.Questions.{namesFace};
+ghost use Rattle.geometry.specs.Answer.{point2};
+ghost use Rattle.meshes.specs.View.{named, viewOf};
+ghost use Rattle.meshes.specs.Sound.{SoundMesh, SoundMap};
 ghost use Rattle.pixels.specs.Edge.{axis, edgeFrom};
+ghost use Rattle.inside.specs.Inside.{allInside, contains};
 ghost use Rattle.pairs.specs.Pairs.{edgeView};
 ghost use Rattle.pairs.specs.Gradient.{pixelValues};
 ghost use Rattle.pairs.specs.Steps.{SoundValues, Within};
 ghost use Rattle.edge_types.specs.Types.{typeOf};
 ghost use Rattle.edge_types.specs.Axis.{axisBuffers, edgesOf, SoundAxis};
+use geometry::Vec2;
+
+// Is at least one centre inside what the other pixel shows? q0 is the centre of the first entry's pixel.
+fn one_inside(
+    tri2vtx: &[u32],
+    vtx2xyz: &[f32],
+    m: &[f32; 16],
+    first: u32,
+    second: u32,
+    q0: Vec2,
+    q1: Vec2,
+) -> bool
+    requires { ⌜ SoundMesh (now tri2vtx) (now vtx2xyz) ⌝ }
+    requires { ⌜ namesFace (length (now tri2vtx) / 3) first ≡ true ⌝ }
+    requires { ⌜ namesFace (length (now tri2vtx) / 3) second ≡ true ⌝ }
+    ensures { λ r. ⌜ r ≡ (contains allInside (now (m .entry)) (now (vtx2xyz .entry)) (named (now (tri2vtx .entry)) second) (point2 q0)
+        || contains allInside (now (m .entry)) (now (vtx2xyz .entry)) (named (now (tri2vtx .entry)) first) (point2 q1)) ⌝ }
+{
+    if inside::contains(tri2vtx, vtx2xyz, m, second, q0) {
+        return true;
+    }
+    inside::contains(tri2vtx, vtx2xyz, m, first, q1)
+}
 
 // The type of the pair whose first pixel is (x, y).
 fn edge_type(
@@ -34,11 +62,9 @@ fn edge_type(
     if pair.first == pair.second {
         return 0;
     }
-    if inside::contains(tri2vtx, vtx2xyz, m, pair.second, pixels::centre_of(x, y)) {
-        return 1;
-    }
+    let q0 = pixels::centre_of(x, y);
     let q1 = pixels::centre_of(x + right, y + down);
-    if inside::contains(tri2vtx, vtx2xyz, m, pair.first, q1) {
+    if one_inside(tri2vtx, vtx2xyz, m, pair.first, pair.second, q0, q1) {
         return 1;
     }
     0

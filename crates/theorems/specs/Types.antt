@@ -21,9 +21,13 @@ picked a s e =
     (received (firstInSecond s e) (secondInFirst s e) (intersection (a .down) (s .matrix) (s .vertices) g0 g1 (centreOf (e .first)) (centreOf (e .second)))
     (alone (a .down) g0 (centreOf (e .first))) (alone (a .down) g1 (centreOf (e .second))))
 
+-- by whether the entries are equal, and each centre inside: unequal, and one at least is
+abbrev pub OneYes : Bool → Bool → Bool → Type 0
+OneYes equal first second = (equal ≡ false) × ((first || second) ≡ true)
+
 -- an unequal pair where at least one centre is inside
 abbrev pub OneInside : EdgeView → Edge → Type 0
-OneInside s e = (equalEntries s e ≡ false) × ((firstInSecond s e || secondInFirst s e) ≡ true)
+OneInside s e = OneYes (equalEntries s e) (firstInSecond s e) (secondInFirst s e)
 
 pub record TypeSays (a : Axis) (s : EdgeView) (v : PixelValues) (e : Edge) : Type 0 where
   -- the test is that of `bwd`: so picked, they are its shares
@@ -35,24 +39,26 @@ pub record TypeSays (a : Axis) (s : EdgeView) (v : PixelValues) (e : Edge) : Typ
   -- a pair of type 0 adds nothing in `bwd`
   pub nothing : typeOf s e ≡ 0 → pairAdditions a s v e ≡ []
 
--- the type, by whether the entries are equal and a centre is inside
-abbrev type : Bool → Bool → ℕ
-type equal inside = cond equal 0 (cond inside 1 0)
+-- the type, by the same three
+abbrev type : Bool → Bool → Bool → ℕ
+type equal first second = cond equal 0 (cond (first || second) 1 0)
 
-one-only : (equal inside : Bool) → type equal inside ≡ 1 → (equal ≡ false) × (inside ≡ true)
-one-only true inside e = absurd (omega (arith, e))
-one-only false true e = (refl, refl)
-one-only false false e = absurd (omega (arith, e))
+one-only : (equal first second : Bool) → type equal first second ≡ 1 → OneYes equal first second
+one-only true first second e = absurd (omega (arith, e))
+one-only false true second e = (refl, refl)
+one-only false false true e = (refl, refl)
+one-only false false false e = absurd (omega (arith, e))
 
-one-there : (equal inside : Bool) → equal ≡ false → inside ≡ true → type equal inside ≡ 1
-one-there equal inside p q = rw (p, q)
+one-there : (equal first second : Bool) → OneYes equal first second → type equal first second ≡ 1
+one-there equal first second p = rw (p .0, p .1)
 
-else-zero : (equal inside : Bool) → ((equal ≡ false) × (inside ≡ true) → ⊥) → type equal inside ≡ 0
-else-zero true inside never = refl
-else-zero false true never = absurd (never (refl, refl))
-else-zero false false never = refl
+else-zero : (equal first second : Bool) → (OneYes equal first second → ⊥) → type equal first second ≡ 0
+else-zero true first second never = refl
+else-zero false true second never = absurd (never (refl, refl))
+else-zero false false true never = absurd (never (refl, refl))
+else-zero false false false never = refl
 
-none-received : (equal first second : Bool) (both one other : List Share) → type equal (first || second) ≡ 0
+none-received : (equal first second : Bool) (both one other : List Share) → type equal first second ≡ 0
     → cond equal [] (received first second both one other) ≡ []
 unfolding received
 none-received true first second both one other e = refl
@@ -74,7 +80,7 @@ unfolding typeOf pairAdditions flatMap
 type-says a s v e =
     record {
       tested = tested a s e;
-      one = (one-only _ _, λ p. one-there _ _ (p .0) (p .1));
-      zero = else-zero _ _;
+      one = (one-only _ (firstInSecond s e) (secondInFirst s e), one-there _ (firstInSecond s e) (secondInFirst s e));
+      zero = else-zero _ (firstInSecond s e) (secondInFirst s e);
       nothing = λ zero. rw (no-shares a s e zero);
     }

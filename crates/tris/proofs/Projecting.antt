@@ -1,9 +1,10 @@
 -- A corner with a projection: what the untested projection gives is it.
 use mathlib.Core.Path.{_≡_, refl, sym, _∙_, ap}
 use mathlib.Core.Bool.{Bool, true, false, cond, false≢true}
-use mathlib.Core.Option.{Option, none, some}
+use mathlib.Core.Option.{none, some}
 use mathlib.Core.List.{List}
 use lib.Ieee.{Float, eq}
+use Rattle.lists.specs.Laws.Tests.{both}
 use Rattle.geometry.specs.Arith.{floats}
 use Rattle.geometry.specs.Vector.{Vec3, Projected, Triangle, triangle}
 use Rattle.geometry.specs.Formula.{row, over}
@@ -11,14 +12,7 @@ use Rattle.geometry.specs.Leaf.{entries, project, divided}
 use Rattle.meshes.specs.Mesh.{Face, vertexAt, cornersAt}
 use Rattle.jacobians.specs.Formula.{projectUntested}
 use Rattle.inside.specs.Inside.{allThree, present, projectFace, projects}
-
--- each of three that are all there is there
-all-three-there : {A : Type 0} (a b c : Option A) → present (allThree a b c) ≡ true → (present a ≡ true) × (present b ≡ true) × (present c ≡ true)
-unfolding allThree present
-all-three-there none b c e = absurd (false≢true e)
-all-three-there (some a) none c e = absurd (false≢true e)
-all-three-there (some a) (some b) none e = absurd (false≢true e)
-all-three-there (some a) (some b) (some c) e = (refl, refl, refl)
+use Rattle.inside.specs.Laws.{all-three}
 
 projected-is : (m : List Float) (x : Vec3 Float) → present (project m x) ≡ true → project m x ≡ some (projectUntested floats (entries m) x)
 unfolding present project divided projectUntested
@@ -35,8 +29,9 @@ all-projected : (m : List Float) (x0 x1 x2 : Vec3 Float) → present (allThree (
     ≡ some (triangle (projectUntested floats (entries m) x0) (projectUntested floats (entries m) x1) (projectUntested floats (entries m) x2))
 unfolding allThree
 all-projected m x0 x1 x2 e =
-    let k = all-three-there (project m x0) (project m x1) (project m x2) e in
-    rw (projected-is m x0 (k .0), projected-is m x1 (k .1), projected-is m x2 (k .2))
+    let first = both (present (project m x0)) _ (sym (all-three (project m x0) (project m x1) (project m x2)) ∙ e) in
+    let others = both (present (project m x1)) _ (first .1) in
+    rw (projected-is m x0 (first .0), projected-is m x1 (others .0), projected-is m x2 (others .1))
 
 corners-are : {A : Type 0} {a b c a' b' c' : A} → a ≡ a' → b ≡ b' → c ≡ c' → triangle a b c ≡ triangle a' b' c'
 corners-are p q r = rw (p, q, r)

@@ -50,17 +50,22 @@ fn weights_in(pass: &Pass, pixel: usize, other: usize) -> Option<Option<[f32; 3]
     Some(weights([0, 1, 2].map(corner), centre))
 }
 
+/// The weights of each centre in the other pixel's face, first the first one's.
+fn both_weights(pass: &Pass, [first, second]: Pair) -> [Option<Option<[f32; 3]>>; 2] {
+    [
+        weights_in(pass, first, second),
+        weights_in(pass, second, first),
+    ]
+}
+
 /// The test of both edge passes: none means outside.
 fn is_inside(weights: Option<[f32; 3]>) -> bool {
     weights.is_some_and(|b| b.iter().all(|&b| b >= 0.0))
 }
 
-/// Each centre in the other pixel's face, first the first one's; nothing where that pixel is empty.
-fn both_inside(pass: &Pass, [first, second]: Pair) -> [Option<bool>; 2] {
-    [
-        weights_in(pass, first, second).map(is_inside),
-        weights_in(pass, second, first).map(is_inside),
-    ]
+/// Whether each centre is inside the other pixel's face; nothing where that pixel is empty.
+fn both_inside(pass: &Pass, pair: Pair) -> [Option<bool>; 2] {
+    both_weights(pass, pair).map(|weights| weights.map(is_inside))
 }
 
 /// Whether the pixels name unlike faces, none is empty, and each face contains the other pixel's centre.
@@ -75,12 +80,8 @@ pub fn edge_type(pass: &Pass, pair: Pair) -> u8 {
 }
 
 /// Whether a face of the pair has no weights at the other pixel's centre.
-pub fn without_weights(pass: &Pass, [first, second]: Pair) -> bool {
-    [
-        weights_in(pass, first, second),
-        weights_in(pass, second, first),
-    ]
-    .contains(&Some(None))
+pub fn without_weights(pass: &Pass, pair: Pair) -> bool {
+    both_weights(pass, pair).contains(&Some(None))
 }
 
 /// Each pixel with the one below it, in the order of the hedges.

@@ -261,20 +261,37 @@ fn the_listed_types_differ_only_without_weights() {
     assert!(other > 500 && unweighed > other);
 }
 
+/// Two pixels side by side of faces 0 and 1, one channel, values 1 and 0, incoming 1 and 1, by the identity.
+#[cfg(listed)]
+fn side_by_side(tri2vtx: &[u32], vertices: &[[i16; 3]]) -> Pass {
+    Pass {
+        img_w: 2,
+        img_h: 1,
+        pix2tri: vec![0, 1],
+        tri2vtx: tri2vtx.to_vec(),
+        vtx2xyz: vertices.concat().iter().map(|&x| x.into()).collect(),
+        num_vdim: 1,
+        pix2val: vec![1.0, 0.0],
+        dldw_pix2val: vec![1.0, 1.0],
+        dldw_vtx2xyz: vec![0.5; 3 * vertices.len()],
+        hedge2type: vec![],
+        hedge2dldr: vec![],
+        vedge2type: vec![7],
+        vedge2dldr: vec![7.0],
+        transform_world2pix: std::array::from_fn(|at| f32::from(u8::from(at % 5 == 0))),
+        ..pass(0)
+    }
+}
+
 /// The smallest scene in which the listed type is another (docs/DIFFERENCES.md): a floor, and on its edge a wall, seen
 /// edge on, beside it in the map. No centre is inside: type 0, and `bwd` adds nothing.
 #[cfg(listed)]
 #[test]
 fn a_face_seen_edge_on_is_no_edge() {
-    let mut pass = pass(0);
-    (pass.img_w, pass.img_h, pass.num_vdim) = (2, 1, 1);
-    pass.tri2vtx = vec![0, 1, 2, 0, 1, 3];
-    pass.vtx2xyz = vec![0., 0., 0., 1., 0., 0., 0., 1., 0., 0., 0., 1.];
-    pass.transform_world2pix = std::array::from_fn(|at| f32::from(u8::from(at % 5 == 0)));
-    (pass.pix2tri, pass.pix2val, pass.dldw_pix2val) = (vec![0, 1], vec![1.0, 0.0], vec![1.0, 1.0]);
-    (pass.hedge2type, pass.hedge2dldr) = (vec![], vec![]);
-    (pass.vedge2type, pass.vedge2dldr) = (vec![7], vec![7.0]);
-    pass.dldw_vtx2xyz = vec![0.5; 12];
+    let pass = side_by_side(
+        &[0, 1, 2, 0, 1, 3],
+        &[[0, 0, 0], [1, 0, 0], [0, 1, 0], [0, 0, 1]],
+    );
     let (code, left) = edges(&pass);
     assert_eq!(
         (code, left.vedge2type, left.vedge2dldr),
@@ -380,25 +397,18 @@ fn the_listed_file_differs_only_where_faces_cross() {
 #[cfg(listed)]
 #[test]
 fn each_share_from_its_own_triangle() {
-    let mut pass = pass(0);
-    (pass.img_w, pass.img_h, pass.num_vdim) = (2, 1, 1);
-    pass.tri2vtx = vec![0, 1, 2, 3, 4, 5];
-    pass.vtx2xyz = [
-        [-1, -1, 0],
-        [10, -2, 4],
-        [-1, 5, 0],
-        [-2, -2, 4],
-        [5, -1, 0],
-        [-2, 10, 4],
-    ]
-    .concat()
-    .iter()
-    .map(|&x| x as f32)
-    .collect();
-    pass.transform_world2pix = std::array::from_fn(|at| f32::from(u8::from(at % 5 == 0)));
+    let mut pass = side_by_side(
+        &[0, 1, 2, 3, 4, 5],
+        &[
+            [-1, -1, 0],
+            [10, -2, 4],
+            [-1, 5, 0],
+            [-2, -2, 4],
+            [5, -1, 0],
+            [-2, 10, 4],
+        ],
+    );
     pass.transform_world2pix[11] = 0.25;
-    (pass.pix2tri, pass.pix2val, pass.dldw_pix2val) = (vec![0, 1], vec![1.0, 0.0], vec![1.0, 1.0]);
-    pass.dldw_vtx2xyz = vec![0.0; 18];
     let (code, got) = bwd(&pass);
     assert_eq!(code, 0);
     let wanted = comparison::reference::bwd(&pass).expect("accepted");
