@@ -1,10 +1,10 @@
-// Three coordinates along one axis, in pixels: their least and greatest, and whether a centre of the image can lie between.
+// Three coordinates along one axis, in pixels: their least and greatest, whether a centre of the image can lie between, and how many do.
 
 ghost use mathlib.Core.Path.{_≡_};
-ghost use mathlib.Core.Bool.{false};
 ghost use Prim.Native.Nat.{_≤_};
 ghost use Rattle.rules.specs.Scan as rule;
-ghost use Rattle.boxes.specs.Reach.{inPixels, Misses};
+ghost use Rattle.lists.specs.Lists.{span, count};
+ghost use Rattle.boxes.specs.Reach.{inPixels, holdsCentre, Tells};
 
 fn lower(a: f32, b: f32) -> f32
     ensures { λ r. ⌜ r ≡ rule.lower a b ⌝ }
@@ -41,12 +41,12 @@ pub fn in_pixels(down: bool, n: usize, c: f32) -> f32
     (c + 1.0) * 0.5 * pixels::as_float(n)
 }
 
-// Whether three corners' coordinates are finite in pixels and a centre of n columns or rows can lie between. Where not, the piece brings no pixel anything.
+// Whether three corners' coordinates are finite in pixels and a centre of n columns or rows can lie between. Where not, the scan holds no pixel.
 // Each is tested before the next is worked out: all at once, they would be loaded together, before what was stored one by one is there.
 pub fn spans_centre(down: bool, a: f32, b: f32, c: f32, n: usize) -> bool
     requires { ⌜ 1 ≤ n ⌝ }
     requires { ⌜ n ≤ 4096 ⌝ }
-    ensures { λ r. ⌜ (r ≡ false → Misses (inPixels down n a) (inPixels down n b) (inPixels down n c) n) ⌝ }
+    ensures { λ r. ⌜ Tells (inPixels down n a) (inPixels down n b) (inPixels down n c) n r ⌝ }
 {
     let p = in_pixels(down, n, a);
     if !geometry::finite(p) {
@@ -61,4 +61,24 @@ pub fn spans_centre(down: bool, a: f32, b: f32, c: f32, n: usize) -> bool
         return false;
     }
     super::reach::meets(least(p, q, s), greatest(p, q, s), n)
+}
+
+// How many of n columns or rows have their centre between three corners' coordinates: none where one is not finite in pixels.
+pub fn count_centres(down: bool, n: usize, a: f32, b: f32, c: f32) -> usize
+    requires { ⌜ 1 ≤ n ⌝ }
+    requires { ⌜ n ≤ 4096 ⌝ }
+    ensures { λ r. ⌜ r ≡ count (holdsCentre (inPixels down n a) (inPixels down n b) (inPixels down n c)) (span 0 n) ⌝ }
+{
+    if !spans_centre(down, a, b, c, n) {
+        return 0;
+    }
+    let p = in_pixels(down, n, a);
+    let q = in_pixels(down, n, b);
+    let s = in_pixels(down, n, c);
+    let first = super::reach::first_reached(true, least(p, q, s), n);
+    let past = super::reach::first_reached(false, greatest(p, q, s), n);
+    if past <= first {
+        return 0;
+    }
+    past - first
 }

@@ -1,17 +1,17 @@
-// The box of a piece: its corners on the screen, and the columns and rows of the image that its scan visits. Values in, values out: no layer is known here.
+// The box of a piece: its corners on the screen, and the columns and rows of the image that its scan visits, or how many. Values in, values out: no layer
+// is known here.
 
-mod axis;
+pub mod axis;
 mod reach;
 
 ghost use mathlib.Core.Path.{_≡_};
-ghost use mathlib.Core.Bool.{false};
-ghost use mathlib.Core.List.{[]};
-ghost use Prim.Native.Nat.{ℕ, _≤_, _<_};
+ghost use mathlib.Core.Bool.{true};
+ghost use Prim.Native.Nat.{_≤_};
 ghost use Rattle.questions.specs.Laws.{Sized};
 ghost use Rattle.rules.specs.Scan as rule;
 ghost use Rattle.pieces.specs.Answer.{pieceOf};
 ghost use Rattle.boxes.specs.Answer.{screenOf};
-ghost use Rattle.boxes.specs.Box.{Scanned};
+ghost use Rattle.boxes.specs.Box.{Meets, Scanned};
 
 // A piece on the screen: pixel coordinates and depths of its corners.
 pub struct Screen {
@@ -34,10 +34,10 @@ pub struct Box {
     pub y1: usize,
 }
 
-// Whether a pixel of the image can have anything of the piece. Faces off the image leave early: the columns are tested before the rows are worked out.
+// Whether the scan of the piece can hold a pixel of the image. Pieces off the image leave early: the columns are tested before the rows are worked out.
 pub fn meets_image(w: usize, h: usize, ndc: [[f32; 3]; 3]) -> bool
     requires { ⌜ Sized 1 w h ⌝ }
-    ensures { λ r. ⌜ (r ≡ false → (ix iy : ℕ) → ix < w → iy < h → rule.candidate (rule.screened w h (pieceOf ndc)) ix iy ≡ []) ⌝ }
+    ensures { λ r. ⌜ Meets (rule.screened w h (pieceOf ndc)) w h r ⌝ }
 {
     if !axis::spans_centre(false, ndc[0][0], ndc[1][0], ndc[2][0], w) {
         return false;
@@ -63,10 +63,11 @@ pub fn screened(w: usize, h: usize, ndc: [[f32; 3]; 3]) -> Screen
     }
 }
 
-// The box that the scan of a piece visits: of no column and no row, where it visits no pixel.
+// The box that the scan of a piece visits, whose corners are finite: of no column and no row, where it visits no pixel.
 pub fn box_of(w: usize, h: usize, s: Screen) -> Box
     requires { ⌜ w ≤ 4096 ⌝ }
     requires { ⌜ h ≤ 4096 ⌝ }
+    requires { ⌜ rule.finiteInPixels (screenOf s) ≡ true ⌝ }
     ensures { λ r. ⌜ Scanned (screenOf s) w h r ⌝ }
 {
     let lx = axis::least(s.x0, s.x1, s.x2);

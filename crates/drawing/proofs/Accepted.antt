@@ -7,13 +7,14 @@ use borrow.Author.Tests.{leb-true}
 use lib.ListN.{length}
 use lib.Ieee.{Float}
 use Rattle.questions.specs.Questions.{outcome, sizes, slices, numbers, allBelow, mostCount}
-use Rattle.questions.specs.Laws.{call-refused, call-done, Sized, sized, sliced, whole, accepted}
+use Rattle.questions.specs.Laws.{call-refused, call-done, Sized, sized, sliced, accepted}
 use Rattle.cells.specs.Layer.{Layer}
 use Rattle.cells.specs.Steps.{Spans}
 use Rattle.layers.specs.Calls.{exactLayer}
 use Rattle.layers.specs.Laws.Answers.{exact-spans}
 use Rattle.meshes.specs.Mesh.{facesOf}
 use Rattle.meshes.specs.Sound.{SoundMesh}
+use Rattle.meshes.specs.Laws.{sound-mesh}
 use Rattle.rules.specs.Offers.{scene}
 use Rattle.rules.specs.Draw.{drawn}
 use Rattle.rules.specs.Calls.{drawCode, draws}
@@ -32,7 +33,7 @@ module _ (l : Layer) (tri : List ℕ) (xyz : List Float) (w h first : ℕ) where
       let q5 = accepted 4 (numbers first (length tri / 3)) _ (q4 .1) in
       let q6 = accepted 5 (allBelow (length xyz / 3) tri) [] (q5 .1) in
       let q3' = sliced (length tri) (length xyz) (q3 .0) in
-      (sized 1 w h (q1 .0), (exact-spans w h l (q4 .0), (record { faces = whole 3 mostCount (length tri) (q3' .0); vertices = whole 3 mostCount (length xyz) (q3' .1); named = q6 .0 }, fits first (length tri / 3) (q5 .0))))
+      (sized 1 w h (q1 .0), (exact-spans w h l (q4 .0), (sound-mesh (q3' .0) (q3' .1) (q6 .0), fits first (length tri / 3) (q5 .0))))
 
   pub draw-refused : (m : List Float) (code : ℕ) → code ≡ drawCode l tri xyz w h first → (code ≡ 0 → ⊥) → outcome code l ≡ draws l tri xyz w h m first
   unfolding draws

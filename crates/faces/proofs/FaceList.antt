@@ -1,54 +1,19 @@
 -- The faces of a list, drawn one after the other.
-use Prim.Native.Nat.{ℕ, zero, suc, _+_, _*_, _/_, _≤_, _<_}
+use Prim.Native.Nat.{ℕ, _+_, _*_, _/_, _≤_, _<_}
 use mathlib.Core.Path.{_≡_, refl, sym, ap, _∙_}
 use mathlib.Core.List.{List, [], _∷_, _++_}
-use native.Mathlib.Nat.{not-suc-le-zero}
 use native.Mathlib.Numerals.{add-one}
 use native.Mathlib.Omega.{arith}
-use lib.ListN.{length, getD, drop, drop-of-length-le}
-use lib.Seq.{drop-cons}
-use lib.Ieee.{Float}
-use Rattle.geometry.specs.Vector.{Vec3}
+use lib.ListN.{length, drop, drop-of-length-le}
 use Rattle.offers.specs.Offers as any
 use Rattle.cells.specs.Layer.{Layer}
 use Rattle.cells.specs.Steps.{Spans}
-use Rattle.meshes.specs.Mesh.{Face, face, faceAt, facesOf, vertexAt}
-use Rattle.rules.specs.Piece.{pieces}
-use Rattle.rules.specs.Offers.{Scene, scene, facePieces, brings, brought}
+use Rattle.meshes.specs.Mesh.{Face, faceAt, facesOf}
+use Rattle.meshes.specs.Laws.{length-faces, faces-from}
+use Rattle.rules.specs.Offers.{Scene, facePieces, brings, brought}
 use Rattle.rules.specs.Draw.{painted, drawn}
 use Rattle.rules.specs.Laws.Paint.{spans-painted, painted-none, painted-same, painted-append}
 use Rattle.raster.specs.Face.{piecesCells}
-
-pub length-faces : (tri : List ℕ) → length (facesOf tri) ≡ length tri / 3
-unfolding facesOf
-length-faces [] = refl
-length-faces (a ∷ []) = refl
-length-faces (a ∷ b ∷ []) = refl
-length-faces (a ∷ b ∷ c ∷ tri) = omega (arith, length-faces tri)
-
-shift : (a b c : ℕ) (tri : List ℕ) (j k : ℕ) → suc (suc (suc j)) ≡ k → getD tri j 0 ≡ getD (a ∷ b ∷ c ∷ tri) k 0
-shift a b c tri j k e = ap (λ (i : ℕ). getD (a ∷ b ∷ c ∷ tri) i 0) e
-
-face-get : (tri : List ℕ) (i : ℕ) (z : Face) → i < length tri / 3 → getD (facesOf tri) i z ≡ faceAt tri i
-unfolding facesOf faceAt
-face-get [] i z h = absurd (not-suc-le-zero h)
-face-get (a ∷ []) i z h = absurd (not-suc-le-zero h)
-face-get (a ∷ b ∷ []) i z h = absurd (not-suc-le-zero h)
-face-get (a ∷ b ∷ c ∷ tri) zero z h = refl
-face-get (a ∷ b ∷ c ∷ tri) (suc i) z h =
-    rw (
-      ← (shift a b c tri (3 * i) (3 * suc i) (omega arith)),
-      ← (shift a b c tri (3 * i + 1) (3 * suc i + 1) (omega arith)),
-      ← (shift a b c tri (3 * i + 2) (3 * suc i + 2) (omega arith)),
-    )
-    (face-get tri i z (omega arith))
-
--- the face at i and those after it
-pub faces-from : (tri : List ℕ) (i : ℕ) → i < length tri / 3 → drop i (facesOf tri) ≡ faceAt tri i ∷ drop (i + 1) (facesOf tri)
-faces-from tri i h =
-    rw add-one
-    (drop-cons (facesOf tri) i (face 0 0 0) (omega (arith, length-faces tri))
-    ∙ ap (λ (f : Face). f ∷ drop (suc i) (facesOf tri)) (face-get tri i (face 0 0 0) h))
 
 module _ (sc : Scene) where
   -- what is still to be brought, with the face at hand
@@ -101,14 +66,3 @@ left-none sc tri first l cur i k h t =
     sym (faces-done sc cur k (t .spans))
     ∙ ap (λ (fs : List Face). painted (brought sc fs k) (sc .width * sc .height) cur) (sym (drop-of-length-le (facesOf tri) {i = i} (omega (arith, length-faces tri))))
     ∙ t .is
-
--- the face's corners as the code has read them
-pub face-read :
-    (m xyz : List Float) (w h : ℕ) (tri : List ℕ) (i k : ℕ) (cur new : Layer) (a b c : Vec3 Float)
-    → a ≡ vertexAt xyz (getD tri (3 * i) 0)
-    → b ≡ vertexAt xyz (getD tri (3 * i + 1) 0)
-    → c ≡ vertexAt xyz (getD tri (3 * i + 2) 0)
-    → new ≡ painted (piecesCells w h (pieces m a b c) k) (w * h) cur
-    → new ≡ painted (piecesCells w h (facePieces (scene m xyz w h) (faceAt tri i)) k) (w * h) cur
-unfolding facePieces faceAt
-face-read m xyz w h tri i k cur new a b c ea eb ec e = rw (← ea, ← eb, ← ec) e

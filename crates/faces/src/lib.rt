@@ -33,11 +33,7 @@ pub fn draw_faces(
     let mut i: usize = 0;
     let mut number = first;
     while i < count {
-        let at = 3 * i;
-        let x0 = meshes::vertex(vtx2xyz, tri2vtx[at] as usize);
-        let x1 = meshes::vertex(vtx2xyz, tri2vtx[at + 1] as usize);
-        let x2 = meshes::vertex(vtx2xyz, tri2vtx[at + 2] as usize);
-        raster::draw_face(pix2tri, pix2depth, w, h, number, m, x0, x1, x2);
+        raster::draw_face(pix2tri, pix2depth, w, h, number, tri2vtx, vtx2xyz, m, i);
         number += 1;
         i += 1;
     }

@@ -7,7 +7,7 @@ ghost use Prim.Native.Nat.{_+_, _*_, _/_, _<_};
 ghost use lib.ListN.{length, getD};
 ghost use Rattle.questions.specs.Questions.{namesFace};
 ghost use Rattle.geometry.specs.Vector.{weights, triangle};
-ghost use Rattle.geometry.specs.Answer.{point2, projectedOf, projectionOf, weightsOf};
+ghost use Rattle.geometry.specs.Answer.{point2, projectedOf, weightsOf};
 ghost use Rattle.geometry.specs.Leaf.{project};
 ghost use Rattle.meshes.specs.Mesh.{faceAt, vertexAt};
 ghost use Rattle.meshes.specs.View.{named};
@@ -40,15 +40,6 @@ pub fn all_inside(b: CornerWeights) -> bool
     all_at_least_zero(b0, b1, b2)
 }
 
-// The projection of the vertex that a face has at place j of the face list.
-fn corner(tri2vtx: &[u32], vtx2xyz: &[f32], m: &[f32; 16], j: usize) -> Projection
-    requires { ⌜ SoundMesh (now tri2vtx) (now vtx2xyz) ⌝ }
-    requires { ⌜ j < length (now tri2vtx) ⌝ }
-    ensures { λ r. ⌜ projectionOf r ≡ project (now (m .entry)) (vertexAt (now (vtx2xyz .entry)) (getD (now (tri2vtx .entry)) j 0)) ⌝ }
-{
-    geometry::project(m, meshes::vertex(vtx2xyz, tri2vtx[j] as usize))
-}
-
 // The weights of q in the triangle of three projected corners.
 fn weights_in(q: Vec2, p0: Projected, p1: Projected, p2: Projected) -> CornerWeights
     ensures { λ r. ⌜ weightsOf r ≡ spec.weightsIn (point2 q) (some (triangle (projectedOf p0) (projectedOf p1) (projectedOf p2))) ⌝ }
@@ -68,13 +59,13 @@ pub fn face_contains(tri2vtx: &[u32], vtx2xyz: &[f32], m: &[f32; 16], face: usiz
     ensures { λ r. ⌜ r ≡ spec.contains spec.allInside (now (m .entry)) (now (vtx2xyz .entry)) (some (faceAt (now (tri2vtx .entry)) face)) (point2 q) ⌝ }
 {
     let i = 3 * face;
-    let Projection::At(p0) = corner(tri2vtx, vtx2xyz, m, i) else {
+    let Projection::At(p0) = meshes::corner(tri2vtx, vtx2xyz, m, i) else {
         return false;
     };
-    let Projection::At(p1) = corner(tri2vtx, vtx2xyz, m, i + 1) else {
+    let Projection::At(p1) = meshes::corner(tri2vtx, vtx2xyz, m, i + 1) else {
         return false;
     };
-    let Projection::At(p2) = corner(tri2vtx, vtx2xyz, m, i + 2) else {
+    let Projection::At(p2) = meshes::corner(tri2vtx, vtx2xyz, m, i + 2) else {
         return false;
     };
     all_inside(weights_in(q, p0, p1, p2))

@@ -3,3 +3,4 @@ pub mod Tests
 pub mod Tables
 pub mod Every
 pub mod Turns
+pub mod Sums

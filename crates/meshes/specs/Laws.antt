@@ -2,19 +2,24 @@
 use Prim.Native.Nat.{ℕ, zero, suc, _+_, _*_, _/_, _≤_, _<_}
 use mathlib.Core.Path.{_≡_, refl, sym, ap, _∙_}
 use mathlib.Core.Bool.{true}
-use mathlib.Core.Option.{none, some}
+use mathlib.Core.Option.{Option, none, some}
 use mathlib.Core.List.{List, [], _∷_, _++_, flatMap}
 use native.Mathlib.Nat.{not-suc-le-zero, le-of-suc-le-suc, zero-add}
+use native.Mathlib.Numerals.{add-one}
 use native.Mathlib.Omega.{arith}
 use borrow.Author.Tests.{eq-eqb, ne-eqb}
 use lib.Ieee.{Float}
-use lib.ListN.{length, getD, length-set}
+use lib.ListN.{length, getD, drop, length-set}
+use lib.Seq.{drop-cons}
 use Rattle.lists.specs.Lists.{span}
 use Rattle.lists.specs.Laws.Turns.{flatMap-none, flatMap-one, flatMap-add}
 use Rattle.lists.specs.Laws.Every.{every-at}
+use Rattle.geometry.specs.Vector.{Projected}
+use Rattle.geometry.specs.Answer.{projectionOf}
+use Rattle.geometry.specs.declared.Projection.{Projection}
 use Rattle.questions.specs.Questions.{allBelow, namesFace, namesFaces, empty, mostCount}
 use Rattle.questions.specs.Laws.{Sized, Grouped, whole, below-at}
-use Rattle.meshes.specs.Mesh.{faceAt}
+use Rattle.meshes.specs.Mesh.{Face, face, faceAt, facesOf}
 use Rattle.meshes.specs.View.{named, entryAt}
 use Rattle.meshes.specs.Sums.{Addition, added, summed}
 use Rattle.meshes.specs.Sound.{SoundMesh, SoundMap}
@@ -36,6 +41,45 @@ named-none tri x e = rw (eq-eqb x empty e)
 pub named-some : (tri : List ℕ) (x : ℕ) → (x ≡ empty → ⊥) → named tri x ≡ some (faceAt tri x)
 unfolding named
 named-some tri x e = rw (ne-eqb x empty e)
+
+-- a projection as a `match` on it found it
+pub found : {e f : Projection} {t : Option (Projected Float)} → projectionOf e ≡ t → e ≡ f → t ≡ projectionOf f
+found k same = sym k ∙ ap projectionOf same
+
+-- ---- the faces of a list
+
+pub length-faces : (tri : List ℕ) → length (facesOf tri) ≡ length tri / 3
+unfolding facesOf
+length-faces [] = refl
+length-faces (a ∷ []) = refl
+length-faces (a ∷ b ∷ []) = refl
+length-faces (a ∷ b ∷ c ∷ tri) = omega (arith, length-faces tri)
+
+shift : (a b c : ℕ) (tri : List ℕ) (j k : ℕ) → suc (suc (suc j)) ≡ k → getD tri j 0 ≡ getD (a ∷ b ∷ c ∷ tri) k 0
+shift a b c tri j k e = ap (λ (i : ℕ). getD (a ∷ b ∷ c ∷ tri) i 0) e
+
+face-get : (tri : List ℕ) (i : ℕ) (z : Face) → i < length tri / 3 → getD (facesOf tri) i z ≡ faceAt tri i
+unfolding facesOf faceAt
+face-get [] i z h = absurd (not-suc-le-zero h)
+face-get (a ∷ []) i z h = absurd (not-suc-le-zero h)
+face-get (a ∷ b ∷ []) i z h = absurd (not-suc-le-zero h)
+face-get (a ∷ b ∷ c ∷ tri) zero z h = refl
+face-get (a ∷ b ∷ c ∷ tri) (suc i) z h =
+    rw (
+      ← (shift a b c tri (3 * i) (3 * suc i) (omega arith)),
+      ← (shift a b c tri (3 * i + 1) (3 * suc i + 1) (omega arith)),
+      ← (shift a b c tri (3 * i + 2) (3 * suc i + 2) (omega arith)),
+    )
+    (face-get tri i z (omega arith))
+
+-- the face at i and those after it
+pub faces-from : (tri : List ℕ) (i : ℕ) → i < length tri / 3 → drop i (facesOf tri) ≡ faceAt tri i ∷ drop (i + 1) (facesOf tri)
+faces-from tri i h =
+    rw add-one
+    (drop-cons (facesOf tri) i (face 0 0 0) (omega (arith, length-faces tri))
+    ∙ ap (λ (f : Face). f ∷ drop (suc i) (facesOf tri)) (face-get tri i (face 0 0 0) h))
+
+-- ---- additions
 
 -- one list of additions after the other
 pub summed-append : (s : List Float) (xs ys : List Addition) → summed s (xs ++ ys) ≡ summed (summed s xs) ys
@@ -95,12 +139,17 @@ entry-named {tri} {map} {xyz} {w} {h} s p l = every-at (namesFace (length tri / 
 pub entry-shown : {tri map : List ℕ} {xyz : List Float} {w h p n : ℕ} → SoundMap tri xyz map w h → (p ≡ n) × (p < w * h) → entryAt map n ≡ getD map p 0
 entry-shown {tri} {map} {xyz} {w} {h} {p} {n} s k = ap (entryAt map) (sym (k .0)) ∙ sym (entry-read map p (omega (arith, s .whole, k .1)))
 
+-- questions 3 and 6 of the mesh, answered yes
+pub sound-mesh : {tri : List ℕ} {xyz : List Float} → Grouped 3 mostCount (length tri) → Grouped 3 mostCount (length xyz) → allBelow (length xyz / 3) tri ≡ true → SoundMesh tri xyz
+sound-mesh {tri} {xyz} q3 q3' q6 =
+    record { faces = whole 3 mostCount (length tri) q3; vertices = whole 3 mostCount (length xyz) q3'; named = q6 }
+
 -- questions 1, 3, 4, 6 and 7 of the mesh and its map, answered yes
 pub sound : {tri map : List ℕ} {xyz : List Float} {w h : ℕ} → Sized 1 w h → Grouped 3 mostCount (length tri) → Grouped 3 mostCount (length xyz) → length map ≡ w * h
     → allBelow (length xyz / 3) tri ≡ true → namesFaces (length tri / 3) map ≡ true → SoundMap tri xyz map w h
 sound {tri} {map} {xyz} q1 q3 q3' q4 q6 q7 =
     record {
-      mesh = record { faces = whole 3 mostCount (length tri) q3; vertices = whole 3 mostCount (length xyz) q3'; named = q6 };
+      mesh = sound-mesh q3 q3' q6;
       size = q1;
       whole = q4;
       named = q7;

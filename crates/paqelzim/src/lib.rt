@@ -1,6 +1,7 @@
 // The public calls as C sees them: every function here, and nothing else, is exported. Each passes
 // its arguments on, and promises what the callee's definition says.
 
+use load::DrawingLoad;
 ghost use mathlib.Core.Path.{_≡_};
 ghost use lib.Ieee.{binary32, binary64};
 ghost use Rattle.roots.specs.Root.{SquareRoot};
@@ -10,6 +11,8 @@ ghost use Rattle.cells.specs.Layer.{layer};
 ghost use Rattle.layers.specs.Calls.{clearing, joining};
 ghost use Rattle.meshes.specs.View.{viewOf};
 ghost use Rattle.rules.specs.Calls.{draws};
+ghost use Rattle.rules.specs.Load.{loading};
+ghost use Rattle.load.specs.Answer.{answered};
 ghost use Rattle.pixel_rays.specs.Rays.{image};
 ghost use Rattle.vertex_values.specs.Pass.{vertices};
 ghost use Rattle.values.specs.Interpolate.{interpolating};
@@ -58,6 +61,19 @@ pub extern "C" fn paqelzim_pix2tri_by_rasterization(
         transform_world2ndc,
         first,
     )
+}
+
+#[no_mangle]
+pub extern "C" fn paqelzim_drawing_load(
+    tri2vtx: &[u32],
+    vtx2xyz: &[f32],
+    img_w: usize,
+    img_h: usize,
+    transform_world2ndc: &[f32; 16],
+) -> DrawingLoad
+    ensures { λ r. ⌜ answered r ≡ loading (now (tri2vtx .entry)) (now (vtx2xyz .entry)) «img_w» «img_h» (now («transform_world2ndc» .entry)) ⌝ }
+{
+    load::drawing_load(tri2vtx, vtx2xyz, img_w, img_h, transform_world2ndc)
 }
 
 #[no_mangle]

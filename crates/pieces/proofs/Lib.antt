@@ -1,2 +1,3 @@
 -- Lemmas that several proofs cite.
 pub mod Tests
+pub mod Faces

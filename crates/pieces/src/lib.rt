@@ -1,14 +1,18 @@
-// The pieces of a face: clipping against the near plane, as the Rust's branches choose. Every function is total: values in, value out.
+// The pieces of a face: clipping against the near plane, as the Rust's branches choose, and what they are charged. All but `face_pieces` are total: values in, value out.
 // No function here is a public call.
 
 use corners::Corner;
-use geometry::Projected;
+use geometry::Projection;
 ghost use mathlib.Core.Path.{_≡_};
-ghost use mathlib.Core.Option.{some};
+ghost use mathlib.Core.Bool.{true};
+ghost use Prim.Native.Nat.{ℕ, _/_, _<_};
+ghost use lib.ListN.{length};
 ghost use mathlib.Core.List.{List, _∷_, []};
 ghost use lib.Ieee.{Float};
-ghost use Rattle.geometry.specs.Answer.{projectedOf};
+ghost use Rattle.meshes.specs.Mesh.{faceAt};
+ghost use Rattle.meshes.specs.Sound.{SoundMesh};
 ghost use Rattle.rules.specs.Piece as rule;
+ghost use Rattle.rules.specs.Offers.{scene, facePieces};
 ghost use Rattle.corners.specs.Answer.{cornerOf};
 ghost use Rattle.pieces.specs.Answer.{piecesOf, pieceOf};
 
@@ -139,7 +143,25 @@ fn clipped(v0: Corner, v1: Corner, v2: Corner) -> Pieces
     mixed(v0, v1, v2)
 }
 
-fn corners_pieces(t11: f32, v0: Corner, v1: Corner, v2: Corner) -> Pieces
+// Whether a face is surely whole. Most are, and are told so before their pieces are made: three corners in an enum are slow to hand over.
+pub fn stays_whole(t11: f32, v0: Corner, v1: Corner, v2: Corner) -> bool
+    ensures { λ r. ⌜ (r ≡ true → rule.whole (cornerOf v0) (cornerOf v1) (cornerOf v2) ≡ rule.cornersPieces t11 (cornerOf v0) (cornerOf v1) (cornerOf v2)) ⌝ }
+{
+    if t11 == 0.0 {
+        return true;
+    }
+    if corners::any_behind(t11, v0, v1, v2) {
+        return false;
+    }
+    corners::all(
+        corners::beyond_near(v0),
+        corners::beyond_near(v1),
+        corners::beyond_near(v2),
+    )
+}
+
+// The pieces of a face whose corners are projected and scored.
+pub fn clip(t11: f32, v0: Corner, v1: Corner, v2: Corner) -> Pieces
     ensures { λ r. ⌜ piecesOf r ≡ rule.cornersPieces t11 (cornerOf v0) (cornerOf v1) (cornerOf v2) ⌝ }
 {
     if t11 == 0.0 {
@@ -151,14 +173,40 @@ fn corners_pieces(t11: f32, v0: Corner, v1: Corner, v2: Corner) -> Pieces
     clipped(v0, v1, v2)
 }
 
-// The pieces of a face whose corners are projected.
-pub fn clip(t11: f32, a: Projected, b: Projected, c: Projected) -> Pieces
-    ensures { λ r. ⌜ piecesOf r ≡ rule.projectedPieces t11 (some (projectedOf a)) (some (projectedOf b)) (some (projectedOf c)) ⌝ }
+// What a face of these pieces is charged: none, one or two.
+pub fn charge(ps: Pieces) -> u32
+    ensures { λ r. ⌜ r ≡ length (piecesOf ps) ⌝ }
 {
-    corners_pieces(
-        t11,
-        corners::scored(t11, a),
-        corners::scored(t11, b),
-        corners::scored(t11, c),
-    )
+    match ps {
+        Pieces::Nothing => 0,
+        Pieces::Whole(_, _, _) => 1,
+        Pieces::One(_, _, _) => 1,
+        Pieces::Two(_, _, _) => 2,
+    }
+}
+
+// The pieces of face number i, whatever the image's size. A face with an unprojectable corner is passed over.
+pub fn face_pieces(tri2vtx: &[u32], vtx2xyz: &[f32], m: &[f32; 16], i: usize) -> Pieces
+    requires { ⌜ SoundMesh (now tri2vtx) (now vtx2xyz) ⌝ }
+    requires { ⌜ i < length (now tri2vtx) / 3 ⌝ }
+    ensures { λ r. ⌜ ((w h : ℕ) → piecesOf r ≡ facePieces (scene (now (m .entry)) (now (vtx2xyz .entry)) w h) (faceAt (now (tri2vtx .entry)) i)) ⌝ }
+{
+    let at = 3 * i;
+    let Projection::At(a) = meshes::corner(tri2vtx, vtx2xyz, m, at) else {
+        return Pieces::Nothing;
+    };
+    let Projection::At(b) = meshes::corner(tri2vtx, vtx2xyz, m, at + 1) else {
+        return Pieces::Nothing;
+    };
+    let Projection::At(c) = meshes::corner(tri2vtx, vtx2xyz, m, at + 2) else {
+        return Pieces::Nothing;
+    };
+    let t11 = m[11];
+    let v0 = corners::scored(t11, a);
+    let v1 = corners::scored(t11, b);
+    let v2 = corners::scored(t11, c);
+    if stays_whole(t11, v0, v1, v2) {
+        return Pieces::Whole(v0, v1, v2);
+    }
+    clip(t11, v0, v1, v2)
 }

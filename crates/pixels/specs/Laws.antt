@@ -1,8 +1,11 @@
 -- Laws of the walk over the edges of an axis, row by row.
 use Prim.Native.Nat.{ℕ, zero, suc, _+_, _*_, _-_, _/_, _%_, _<_, _≤_}
-use mathlib.Core.Path.{_≡_, _∙_, ap, ap₂}
-use native.Mathlib.Nat.{add-zero, div-eq-of-lt, div-eq-of-lt-le, div-add-mod', div-lt-iff-lt-mul, mod-eq-of-lt, mul-add-div-right, mul-add-mod-self-right, mul-zero, mul-comm, mul-le-mul, mul-le-mul-right}
+use mathlib.Core.Path.{_≡_, sym, _∙_, ap, ap₂}
+use mathlib.Core.Bool.{Bool, true, false, _&&_, cond, and-true, and-false}
+use native.Mathlib.Nat.{add-zero, div-eq-of-lt, div-eq-of-lt-le, div-add-mod', div-lt-iff-lt-mul, mod-eq-of-lt, mod-lt, mul-add-div-right, mul-add-mod-self-right, mul-zero, zero-mul, mul-add, mul-comm, mul-le-mul, mul-le-mul-right}
 use native.Mathlib.Omega.{arith}
+use Rattle.lists.specs.Lists.{span, count}
+use Rattle.lists.specs.Laws.Sums.{count-add, count-same, count-alike}
 use Rattle.pixels.specs.Edge.{Axis, edgeFrom, edgeAt, perRow, rows, edgeCount}
 
 -- (x', y') comes after (x, y), in rows of n
@@ -51,6 +54,13 @@ row-at n y x h = mul-add-div-right {m = n} (omega arith) y x ∙ ap (λ (k : ℕ
 pub column-at : (n y x : ℕ) → x < n → (y * n + x) % n ≡ x
 column-at n y x h = mul-add-mod-self-right y n x ∙ mod-eq-of-lt h
 
+-- column and row of a pixel of the image
+pub column-below : {w : ℕ} (p : ℕ) → 0 < w → p % w < w
+column-below p some = mod-lt p some
+
+pub row-below : {w h : ℕ} (p : ℕ) → 0 < w → p < w * h → p / w < h
+row-below {w} {h} p some l = div-lt-iff-lt-mul some .1 (omega (arith, mul-comm w h))
+
 -- the number of a pixel of the image, and a bound on how many there are
 pub number-below : {w h x y : ℕ} → x < w → y < h → y * w + x < w * h
 number-below {w} {h} {x} {y} a b = let l : (y + 1) * w ≤ h * w = mul-le-mul-right w (omega arith) in omega (arith, mul-comm w h)
@@ -61,3 +71,42 @@ area-below a b = mul-le-mul a b
 -- an axis has no more pairs than the largest image has pixels
 pub edges-few : {w h : ℕ} → w ≤ 4096 → h ≤ 4096 → (right down : ℕ) → (h - down) * (w - right) ≤ 16777216
 edges-few a b right down = area-below (omega arith) (omega arith)
+
+-- ---- pixels counted by column and row
+
+module _ (f g : ℕ → Bool) (w : ℕ) where
+  -- whether the pixel numbered p is one
+  abbrev both : ℕ → Bool
+  both p = f (p % w) && g (p / w)
+
+  alone : (b : Bool) → count (λ i. f i && b) (span 0 w) ≡ count f (span 0 w) * cond b 1 0
+  alone true = count-same (λ i. f i && true) f 0 0 w (λ i h. and-true (f (0 + i))) ∙ omega arith
+  alone false = count-alike (λ i. f i && false) false 0 w (λ i h. and-false (f (0 + i))) ∙ omega arith
+
+  -- row y
+  row-count : (y : ℕ) → count both (span (0 + y * w) w) ≡ count f (span 0 w) * cond (g y) 1 0
+  row-count y =
+      count-same both (λ i. f i && g y) (0 + y * w) 0 w
+      (λ i h.
+      let k : 0 + y * w + i ≡ y * w + i = omega arith in
+      let j : i ≡ 0 + i = omega arith in
+      ap both k ∙ ap₂ (λ (c r : ℕ). f c && g r) (column-at w y i h ∙ j) (row-at w y i h))
+      ∙ alone (g y)
+
+  by-rows : (h : ℕ) → count both (span 0 (h * w)) ≡ count f (span 0 w) * count g (span 0 h)
+  by-rows zero = ap (λ (n : ℕ). count both (span 0 n)) (zero-mul w) ∙ count-alike both false 0 0 (λ i l. absurd (omega arith)) ∙ sym (ap (λ (n : ℕ). count f (span 0 w) * n) (count-alike g false 0 0 (λ i l. absurd (omega arith))) ∙ mul-zero _)
+  by-rows (suc h) =
+      ap (λ (n : ℕ). count both (span 0 n)) next
+      ∙ count-add both 0 (h * w) w
+      ∙ ap₂ _+_ (by-rows h) (row-count h)
+      ∙ sym (ap (λ (n : ℕ). count f (span 0 w) * n) last ∙ mul-add _ _ _)
+    where
+      next : suc h * w ≡ h * w + w
+      next = omega arith
+
+      last : count g (span 0 (suc h)) ≡ count g (span 0 h) + cond (g h) 1 0
+      last = let e : suc h ≡ h + 1 = omega arith in ap (λ (n : ℕ). count g (span 0 n)) e ∙ count-add g 0 h 1 ∙ ap (λ (n : ℕ). count g (span 0 h) + n) (count-alike g (g h) (0 + h) 1 (λ i l. let k : 0 + h + i ≡ h = omega arith in ap g k))
+
+  -- so many columns times so many rows
+  pub count-pixels : (h : ℕ) → count both (span 0 (w * h)) ≡ count f (span 0 w) * count g (span 0 h)
+  count-pixels h = ap (λ (n : ℕ). count both (span 0 n)) (mul-comm w h) ∙ by-rows h

@@ -1,3 +1,2 @@
 -- Lemmas that several proofs cite.
 pub mod Painting
-pub mod FacePieces

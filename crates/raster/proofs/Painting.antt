@@ -1,18 +1,19 @@
 -- One piece and the pieces of a face, painted.
 use Prim.Native.Nat.{ℕ, _*_, _/_, _%_, _<_}
 use mathlib.Core.Path.{_≡_, refl, sym, ap, _∙_}
+use mathlib.Core.Bool.{false}
 use mathlib.Core.List.{List, [], _∷_, _++_, append-nil}
-use native.Mathlib.Nat.{div-lt-iff-lt-mul, mod-lt}
 use native.Mathlib.Omega.{arith}
 use lib.Ieee.{Float}
 use Rattle.geometry.specs.Vector.{Vec3, Triangle}
 use Rattle.questions.specs.Laws.{Sized}
+use Rattle.pixels.specs.Laws.{column-below, row-below}
 use Rattle.cells.specs.Cell.{Cell}
 use Rattle.offers.specs.Offers.{numbered}
 use Rattle.cells.specs.Layer.{Layer}
 use Rattle.cells.specs.Steps.{Spans}
 use Rattle.rules.specs.Piece.{Piece}
-use Rattle.rules.specs.Scan.{candidate, screened}
+use Rattle.rules.specs.Scan.{scans, candidate, screened}
 use Rattle.rules.specs.Offers.{pieceBrings, piecesBring}
 use Rattle.rules.specs.Draw.{painted}
 use Rattle.rules.specs.Laws.Paint.{painted-none, painted-same, painted-append}
@@ -25,22 +26,18 @@ use Rattle.raster.specs.Face.{piecesCells}
 -- ---- one piece
 
 module _ (s : Triangle (Vec3 Float)) (k w h : ℕ) (l : Layer) (size : Sized 1 w h) where
-  -- column and row of a pixel of the image
-  column-in : (p : ℕ) → p % w < w
-  column-in p = mod-lt p (omega (arith, size .w-least))
+  some : 0 < w
+  some = omega (arith, size .w-least)
 
-  row-in : (p : ℕ) → p < w * h → p / w < h
-  row-in p m = let some : 0 < w = omega (arith, size .w-least) in div-lt-iff-lt-mul some .1 (omega arith)
-
-  -- a piece that brings no pixel anything
-  pub untouched : Spans l (w * h) → ((ix iy : ℕ) → ix < w → iy < h → candidate s ix iy ≡ []) → l ≡ painted (pieceCells s k w) (w * h) l
-  unfolding pieceCells numbered
-  untouched whole e = sym (painted-none (w * h) l (pieceCells s k w) whole (λ p m. rw (e (p % w) (p / w) (column-in p) (row-in p m))))
+  -- a piece whose scan holds no pixel of the image
+  pub untouched : Spans l (w * h) → ((ix iy : ℕ) → ix < w → iy < h → scans s ix iy ≡ false) → l ≡ painted (pieceCells s k w) (w * h) l
+  unfolding pieceCells numbered candidate
+  untouched whole e = sym (painted-none (w * h) l (pieceCells s k w) whole (λ p m. rw (e (p % w) (p / w) (column-below p some) (row-below p some m))))
 
   -- the box that the scan visits, painted
   pub box-done : {b : Box} {new : Layer} → Scanned s w h b → new ≡ painted (boxCells s k w b) (w * h) l → new ≡ painted (pieceCells s k w) (w * h) l
   unfolding boxCells pieceCells candidate
-  box-done {b} sc e = e ∙ painted-same (w * h) l (boxCells s k w b) (pieceCells s k w) (λ p m. rw (sc .visits (p % w) (p / w) (column-in p) (row-in p m)))
+  box-done {b} sc e = e ∙ painted-same (w * h) l (boxCells s k w b) (pieceCells s k w) (λ p m. rw (sc .visits (p % w) (p / w) (column-below p some) (row-below p some m)))
 
 -- ---- the pieces of a face
 
@@ -77,3 +74,14 @@ module _ (w h k : ℕ) where
       ∙ ap (painted (piecesCells w h (u ∷ []) k) (w * h)) e
       ∙ painted-append (w * h) l (pieceCells (screened w h t) k w) (piecesCells w h (u ∷ []) k)
       ∙ painted-same (w * h) l (λ p. pieceCells (screened w h t) k w p ++ piecesCells w h (u ∷ []) k p) (piecesCells w h (t ∷ u ∷ []) k) (λ p m. one-more t (u ∷ []) p)
+
+-- ---- a face
+
+module _ (w h number : ℕ) (l : Layer) where
+  -- one that is passed over
+  pub passed-over : {ps : List Piece} → Spans l (w * h) → [] ≡ ps → l ≡ painted (piecesCells w h ps number) (w * h) l
+  passed-over whole e = none-done w h number l whole ∙ ap (λ (qs : List Piece). painted (piecesCells w h qs number) (w * h) l) e
+
+  -- one whose pieces are drawn
+  pub pieces-drawn : {ps qs : List Piece} {new : Layer} → new ≡ painted (piecesCells w h ps number) (w * h) l → ps ≡ qs → new ≡ painted (piecesCells w h qs number) (w * h) l
+  pieces-drawn drawn e = drawn ∙ ap (λ (qs : List Piece). painted (piecesCells w h qs number) (w * h) l) e

@@ -1,15 +1,19 @@
 // Drawing one face on a layer: its pieces, each off the image or by the scan of its box. No function here is a public call.
 
+use corners::Corner;
 use geometry::Projection;
-use geometry::Vec3;
 use pieces::Pieces;
 ghost use mathlib.Core.Path.{_≡_};
-ghost use Prim.Native.Nat.{_*_};
-ghost use Rattle.geometry.specs.Answer.{point3};
+ghost use Prim.Native.Nat.{_*_, _/_, _<_};
+ghost use lib.ListN.{length};
 ghost use Rattle.questions.specs.Laws.{Sized};
 ghost use Rattle.cells.specs.Layer.{layer};
 ghost use Rattle.cells.specs.Steps.{Spans};
-ghost use Rattle.rules.specs.Piece as piece;
+ghost use Rattle.meshes.specs.Mesh.{faceAt};
+ghost use Rattle.meshes.specs.Sound.{SoundMesh};
+ghost use Rattle.rules.specs.Piece.{cornersPieces};
+ghost use Rattle.rules.specs.Offers.{scene, facePieces};
+ghost use Rattle.corners.specs.Answer.{cornerOf};
 ghost use Rattle.rules.specs.Draw.{painted};
 ghost use Rattle.rules.specs.Scan as rule;
 ghost use Rattle.pieces.specs.Answer.{pieceOf, piecesOf};
@@ -68,37 +72,62 @@ fn draw_pieces(
     }
 }
 
-// The face with corners x0, x1, x2. One with an unprojectable corner is passed over.
+// The face of three corners, projected and scored: whole, or its pieces.
+fn draw_corners(
+    pix2tri: &mut [u32],
+    pix2depth: &mut [f32],
+    w: usize,
+    h: usize,
+    number: u32,
+    t11: f32,
+    v0: Corner,
+    v1: Corner,
+    v2: Corner,
+)
+    requires { ⌜ Sized 1 w h ⌝ }
+    requires { ⌜ Spans (layer (now pix2tri) (now pix2depth)) (w * h) ⌝ }
+    ensures { λ _. ⌜ layer (now (pix2tri .exit)) (now (pix2depth .exit)) ≡ painted (piecesCells w h (cornersPieces t11 (cornerOf v0) (cornerOf v1) (cornerOf v2)) number) (w * h) (layer (now (pix2tri .entry)) (now (pix2depth .entry))) ⌝ }
+{
+    if pieces::stays_whole(t11, v0, v1, v2) {
+        let t = pieces::whole(v0, v1, v2);
+        rasterize_projected_tri(pix2tri, pix2depth, w, h, number, t);
+        return;
+    }
+    let ps = pieces::clip(t11, v0, v1, v2);
+    draw_pieces(pix2tri, pix2depth, w, h, number, ps);
+}
+
+// Face number i of the mesh. One with an unprojectable corner is passed over.
 pub fn draw_face(
     pix2tri: &mut [u32],
     pix2depth: &mut [f32],
     w: usize,
     h: usize,
     number: u32,
+    tri2vtx: &[u32],
+    vtx2xyz: &[f32],
     m: &[f32; 16],
-    x0: Vec3,
-    x1: Vec3,
-    x2: Vec3,
+    i: usize,
 )
     requires { ⌜ Sized 1 w h ⌝ }
     requires { ⌜ Spans (layer (now pix2tri) (now pix2depth)) (w * h) ⌝ }
-    ensures { λ _. ⌜ layer (now (pix2tri .exit)) (now (pix2depth .exit)) ≡ painted (piecesCells w h (piece.pieces (now (m .entry)) (point3 x0) (point3 x1) (point3 x2)) number) (w * h) (layer (now (pix2tri .entry)) (now (pix2depth .entry))) ⌝ }
+    requires { ⌜ SoundMesh (now tri2vtx) (now vtx2xyz) ⌝ }
+    requires { ⌜ i < length (now tri2vtx) / 3 ⌝ }
+    ensures { λ _. ⌜ layer (now (pix2tri .exit)) (now (pix2depth .exit)) ≡ painted (piecesCells w h (facePieces (scene (now (m .entry)) (now (vtx2xyz .entry)) w h) (faceAt (now (tri2vtx .entry)) i)) number) (w * h) (layer (now (pix2tri .entry)) (now (pix2depth .entry))) ⌝ }
 {
-    let Projection::At(a) = geometry::project(m, x0) else {
+    let at = 3 * i;
+    let Projection::At(a) = meshes::corner(tri2vtx, vtx2xyz, m, at) else {
         return;
     };
-    let Projection::At(b) = geometry::project(m, x1) else {
+    let Projection::At(b) = meshes::corner(tri2vtx, vtx2xyz, m, at + 1) else {
         return;
     };
-    let Projection::At(c) = geometry::project(m, x2) else {
+    let Projection::At(c) = meshes::corner(tri2vtx, vtx2xyz, m, at + 2) else {
         return;
     };
-    draw_pieces(
-        pix2tri,
-        pix2depth,
-        w,
-        h,
-        number,
-        pieces::clip(m[11], a, b, c),
-    );
+    let t11 = m[11];
+    let v0 = corners::scored(t11, a);
+    let v1 = corners::scored(t11, b);
+    let v2 = corners::scored(t11, c);
+    draw_corners(pix2tri, pix2depth, w, h, number, t11, v0, v1, v2);
 }

@@ -2,3 +2,5 @@
 pub mod Paint
 pub mod Centre
 pub mod Finite
+pub mod Unscanned
+pub mod Load

@@ -4,6 +4,7 @@ use mathlib.Core.Bool.{Bool, _&&_, _||_, cond}
 use mathlib.Core.Option.{Option, none, some}
 use mathlib.Core.List.{List, [], _∷_}
 use lib.Ieee.{Float, binary32, ofBits, lt, le}
+use lib.Ieee.Scale.{finite}
 use Rattle.geometry.specs.Arith.{Arith, floats}
 use Rattle.geometry.specs.Vector.{Vec2, Vec3, vec3, flat, Weights, Triangle, triangle}
 use Rattle.geometry.specs.Formula.{blend}
@@ -33,8 +34,7 @@ screened w h t = triangle (onScreen w h (t .p0)) (onScreen w h (t .p1)) (onScree
 abbrev pub centreAt : ℕ → ℕ → Vec2 Float
 centreAt ix iy = centreOf (pixel ix iy)
 
--- The least and the greatest of three coordinates. Of two, the first stays where either is NaN: so where the first of three is NaN, both ends are, and
--- no centre lies between them; where another is, it is passed over, and the ends are those of the rest.
+-- The least and the greatest of three coordinates. What they are where one is NaN does not matter: the scan asks for finite ones.
 unfoldable pub lower : Float → Float → Float
 lower a b = cond (lt b a) b a
 
@@ -54,11 +54,22 @@ between low high q = le low q && le q high
 unfoldable pub spans : Float → Float → Float → Float → Bool
 spans a b c q = between (least a b c) (greatest a b c) q
 
--- Scan: the pixels of the image whose centre (ix+0.5, iy+0.5) lies in the closed box of the three corners. The image is no part of the test: wherever it
--- is used, ix and iy are the column and the row of a pixel number below width times height.
-unfoldable pub scans : Triangle (Vec3 Float) → ℕ → ℕ → Bool
-scans s ix iy =
+-- the centre (ix+0.5, iy+0.5) lies in the closed box of the three corners
+unfoldable pub inClosedBox : Triangle (Vec3 Float) → ℕ → ℕ → Bool
+inClosedBox s ix iy =
     spans (s .p0 .x) (s .p1 .x) (s .p2 .x) (centre ix) && spans (s .p0 .y) (s .p1 .y) (s .p2 .y) (centre iy)
+
+abbrev pub allFinite : Float → Float → Float → Bool
+allFinite a b c = finite a && (finite b && finite c)
+
+-- every corner is finite in pixels: the three columns and the three rows are
+unfoldable pub finiteInPixels : Triangle (Vec3 Float) → Bool
+finiteInPixels s = allFinite (s .p0 .x) (s .p1 .x) (s .p2 .x) && allFinite (s .p0 .y) (s .p1 .y) (s .p2 .y)
+
+-- Scan: the pixels of the image whose centre lies in the closed box of the three corners; a piece with a corner not finite in pixels is offered none.
+-- The image is no part of the test: wherever it is used, ix and iy are the column and the row of a pixel number below width times height.
+unfoldable pub scans : Triangle (Vec3 Float) → ℕ → ℕ → Bool
+scans s ix iy = finiteInPixels s && inClosedBox s ix iy
 
 -- −1e-5
 abbrev pub dropBelow : Float

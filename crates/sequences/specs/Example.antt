@@ -13,7 +13,7 @@ use Rattle.geometry.specs.Leaf.{weighed, weighedAll, cornerWeights, divided, pr
 use Rattle.meshes.specs.Mesh.{facesOf, vertexAt}
 use Rattle.pixels.specs.Pixel.{centre, centreOf}
 use Rattle.rules.specs.Piece.{scored, whole, behind, anyBehind, cornersPieces, projectedPieces, pieces}
-use Rattle.rules.specs.Scan.{onScreen, screened, lower, upper, least, greatest, spans, between, scans, dropped, kept, weighedDepth, depthAt, candidate}
+use Rattle.rules.specs.Scan.{onScreen, screened, lower, upper, least, greatest, spans, between, inClosedBox, finiteInPixels, scans, dropped, kept, weighedDepth, depthAt, candidate}
 use Rattle.rules.specs.Offers.{facePieces, pieceBrings, piecesBring, brings, brought}
 use Rattle.rules.specs.Draw.{painted, drawn}
 use Rattle.rules.specs.Calls.{drawCode, draws}
@@ -54,5 +54,5 @@ blank = layer (four empty) (four lowest)
 
 -- the faces `tri` drawn from number 0
 unfoldable pub drawing : Layer → List ℕ → List Float → Float → Float → Outcome Layer
-unfolding firstNo sizes groups numbers every exact offered pick exceeds tabulate numbered any.brought facesOf vertexAt cross2 areas total overTotal blend row over weighed weighedAll cornerWeights divided project scored whole behind anyBehind cornersPieces projectedPieces pieces onScreen screened centre centreOf lower upper least greatest spans between scans dropped kept weighedDepth depthAt candidate facePieces pieceBrings piecesBring brings brought painted drawn drawCode draws add sub mul div neg lt le eq ofBits ofInt
+unfolding firstNo sizes groups numbers every exact offered pick exceeds tabulate numbered any.brought facesOf vertexAt cross2 areas total overTotal blend row over weighed weighedAll cornerWeights divided project scored whole behind anyBehind cornersPieces projectedPieces pieces onScreen screened centre centreOf lower upper least greatest spans between inClosedBox finiteInPixels scans dropped kept weighedDepth depthAt candidate facePieces pieceBrings piecesBring brings brought painted drawn drawCode draws add sub mul div neg lt le eq ofBits ofInt
 drawing l tri xyz m11 m15 = draws l tri xyz 2 2 (matrix m11 m15) 0

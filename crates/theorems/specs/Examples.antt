@@ -3,6 +3,7 @@
 pub mod Values
 pub mod Edges
 pub mod Floats
+pub mod Load
 use mathlib.Core.Path.{_≡_, refl}
 use mathlib.Core.List.{[], _∷_}
 use lib.Ieee.{nan, binary32, ofBits}

@@ -27,7 +27,7 @@ returns-3 c =
     let t = c .before in
     let s = t .before .before .before .before .before in
     let f = s .before .before .before .before in
-    ends-scanned (screenOf (f .args .s)) (f .args .w) (f .args .h)
+    ends-scanned (screenOf (f .args .s)) (f .args .w) (f .args .h) (f .pre .1 .1)
     (record { low-is = s .before .before .before .least .ensures; high-is = s .before .before .greatest .ensures; first = s .before .first-reached .ensures; past = s .first-reached2 .ensures })
     (record { low-is = t .before .before .before .least2 .ensures; high-is = t .before .before .greatest2 .ensures; first = t .before .first-reached3 .ensures; past = t .first-reached4 .ensures })
     (omega arith)

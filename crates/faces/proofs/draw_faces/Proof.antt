@@ -1,13 +1,12 @@
 -- `faces::draw_faces`: one face less is left at each turn.
-use Prim.Native.Nat.{_+_, _*_, _/_, _-_}
+use Prim.Native.Nat.{_/_, _-_}
 use mathlib.Core.Path.{_≡_, refl, sym, _∙_}
 use native.Mathlib.Omega.{arith}
 use lib.ListN.{length}
 use Rattle.cells.specs.Layer.{layer}
 use Rattle.meshes.specs.Mesh.{facesOf}
-use Rattle.meshes.specs.Laws.{corner-there}
 use Rattle.rules.specs.Offers.{scene}
-use Rattle.faces.proofs.FaceList.{Left, left-all, left-less, left-none, face-read}
+use Rattle.faces.proofs.FaceList.{Left, left-all, left-less, left-none}
 use Rattle.faces.proofs.draw_faces.Statement.{statement}
 use Rattle.faces.proofs.draw_faces.Tie as tie
 
@@ -24,76 +23,33 @@ loop-holds c =
     let a = f .args in
     (refl, left-all (scene (a .m .now) (a .vtx2xyz .now) (a .w) (a .h)) (facesOf (a .tri2vtx .now)) (a .first) (layer (a .pix2tri .now) (a .pix2depth .now)) (f .pre .1 .0))
 
-mul-at : tie.Need-mul-at Inv-loop μ-loop
-mul-at c = record { fits = omega (arith, c .before .loop .inv .0, c .before .before .before .before .before .before .pre .1 .1 .1) }
-
-mul-vertex : tie.Need-mul-vertex Inv-loop μ-loop
-mul-vertex c = record { fits = omega (arith, c .before .loop .inv .0, c .before .before .before .before .before .before .pre .1 .1 .1) }
-
-shared-slice-read-vertex : tie.Need-shared-slice-read-vertex Inv-loop μ-loop
-shared-slice-read-vertex c = omega (arith, c .before .before .loop .inv .0)
-
-cast-vertex : tie.Need-cast-vertex Inv-loop μ-loop
-cast-vertex c = omega (arith, c .shared-slice-known3 .given (3 * c .before .before .loop .i))
-
-vertex-requires : tie.Need-vertex-requires Inv-loop μ-loop
-vertex-requires c κs =
-    corner-there (c .before .before .before .before .before .before .before .pre .1 .1 .0) (3 * c .before .before .loop .i) (omega (arith, c .before .before .loop .inv .0))
-
-add-vertex : tie.Need-add-vertex Inv-loop μ-loop
-add-vertex c = record { fits = omega (arith, c .before .before .before .loop .inv .0, c .before .before .before .before .before .before .before .before .pre .1 .1 .1) }
-
-mul-vertex-2 : tie.Need-mul-vertex-2 Inv-loop μ-loop
-mul-vertex-2 c = record { fits = omega (arith, c .before .before .before .loop .inv .0, c .before .before .before .before .before .before .before .before .pre .1 .1 .1) }
-
-shared-slice-read-vertex-2 : tie.Need-shared-slice-read-vertex-2 Inv-loop μ-loop
-shared-slice-read-vertex-2 c = omega (arith, c .before .before .before .before .loop .inv .0)
-
-cast-vertex-2 : tie.Need-cast-vertex-2 Inv-loop μ-loop
-cast-vertex-2 c = omega (arith, c .shared-slice-known4 .given (3 * c .before .before .before .before .loop .i + 1))
-
-vertex-requires-2 : tie.Need-vertex-requires-2 Inv-loop μ-loop
-vertex-requires-2 c κs =
-    corner-there (c .before .before .before .before .before .before .before .before .before .pre .1 .1 .0) (3 * c .before .before .before .before .loop .i + 1) (omega (arith, c .before .before .before .before .loop .inv .0))
-
-add-vertex-2 : tie.Need-add-vertex-2 Inv-loop μ-loop
-add-vertex-2 c = record { fits = omega (arith, c .before .before .before .before .before .loop .inv .0, c .before .before .before .before .before .before .before .before .before .before .pre .1 .1 .1) }
-
-mul-vertex-3 : tie.Need-mul-vertex-3 Inv-loop μ-loop
-mul-vertex-3 c = record { fits = omega (arith, c .before .before .before .before .before .loop .inv .0, c .before .before .before .before .before .before .before .before .before .before .pre .1 .1 .1) }
-
-shared-slice-read-vertex-3 : tie.Need-shared-slice-read-vertex-3 Inv-loop μ-loop
-shared-slice-read-vertex-3 c = omega (arith, c .before .before .before .before .before .before .loop .inv .0)
-
-cast-vertex-3 : tie.Need-cast-vertex-3 Inv-loop μ-loop
-cast-vertex-3 c = omega (arith, c .shared-slice-known5 .given (3 * c .before .before .before .before .before .before .loop .i + 2))
-
-vertex-requires-3 : tie.Need-vertex-requires-3 Inv-loop μ-loop
-vertex-requires-3 c κs =
-    corner-there (c .before .before .before .before .before .before .before .before .before .before .before .pre .1 .1 .0) (3 * c .before .before .before .before .before .before .loop .i + 2) (omega (arith, c .before .before .before .before .before .before .loop .inv .0))
-
 draw-face-requires : tie.Need-draw-face-requires Inv-loop μ-loop
-draw-face-requires c κs = (c .before .before .before .before .before .before .before .before .before .before .before .before .before .before .pre .0, c .before .before .before .before .before .before .before .before .before .loop .inv .1 .spans)
+draw-face-requires c κs =
+    let turn = c .before .before in
+    let m = turn .before in
+    let f = m .before .before .before .before .before in
+    (f .pre .0, (m .loop .inv .1 .spans, (f .pre .1 .1 .0, omega (arith, m .loop .inv .0, turn .loop-test .taken))))
 
 add-number : tie.Need-add-number Inv-loop μ-loop
-add-number c = record { fits = omega (arith, c .before .before .before .before .before .before .before .before .before .before .before .before .before .before .loop .inv .0, c .before .before .before .before .before .before .before .before .before .before .before .before .before .before .loop .inv .1 .number, c .before .before .before .before .before .before .before .before .before .before .before .before .before .before .before .before .before .before .before .pre .1 .1 .1) }
+add-number c =
+    let m = c .before .before .before .before .before .before .before .before in
+    record { fits = omega (arith, m .loop .inv .0, m .loop .inv .1 .number, m .before .before .before .before .before .pre .1 .1 .1) }
 
 add-i : tie.Need-add-i Inv-loop μ-loop
-add-i c = record { fits = omega (arith, c .before .before .before .before .before .before .before .before .before .before .before .before .before .before .loop .inv .0, c .before .before .before .before .before .before .before .before .before .before .before .before .before .before .before .before .before .before .before .pre .1 .1 .1) }
+add-i c =
+    let m = c .before .before .before .before .before .before .before .before in
+    record { fits = omega (arith, m .loop .inv .0, m .before .before .before .before .before .pre .1 .1 .1) }
 
 loop-again : tie.Need-loop-again Inv-loop μ-loop
 loop-again c =
-    let m = c .before .before .before .before .before .before .before .before .before .before .before .before .before .before in
-    let f = c .before .before .before .before .before .before .before .before .before .before .before .before .before .before .before .before .before .before .before in
-    let a = f .args in
-    let cur = layer (m .loop .pix2tri) (m .loop .pix2depth) in (
+    let turn = c .before .before .before .before .before .before .before in
+    let m = turn .before in
+    let a = m .before .before .before .before .before .args in (
       m .loop .inv .0,
-      left-less (scene (a .m .now) (a .vtx2xyz .now) (a .w) (a .h)) (a .tri2vtx .now) (a .first) (layer (a .pix2tri .now) (a .pix2depth .now)) cur _ (m .loop .i) (m .loop .number) (omega (arith, m .loop .inv .0, c .before .before .before .before .before .before .before .before .before .before .before .before .before .loop-test .taken)) (m .loop .inv .1)
-          (face-read (a .m .now) (a .vtx2xyz .now) (a .w) (a .h) (a .tri2vtx .now) (m .loop .i) (m .loop .number) cur _ _ _ _
-          (c .before .before .before .before .before .before .before .before .before .before .before .vertex .ensures)
-          (c .before .before .before .before .before .before .before .before .before .vertex2 .ensures)
-          (c .before .before .before .before .before .before .before .vertex3 .ensures)
-          (c .before .before .before .before .draw-face .ensures)),
+      left-less (scene (a .m .now) (a .vtx2xyz .now) (a .w) (a .h)) (a .tri2vtx .now) (a .first) (layer (a .pix2tri .now) (a .pix2depth .now)) (layer (m .loop .pix2tri) (m .loop .pix2depth)) _ (m .loop .i) (m .loop .number)
+          (omega (arith, m .loop .inv .0, turn .loop-test .taken))
+          (m .loop .inv .1)
+          (c .before .before .before .before .draw-face .ensures),
     )
 
 same-length : tie.Need-same-length Inv-loop μ-loop
@@ -105,12 +61,10 @@ same-length-2 c = c .before .loop .inv .1 .spans .depths ∙ sym (c .before .bef
 returns : tie.Need-returns Inv-loop μ-loop
 returns c =
     let m = c .before in
-    let a = c .before .before .before .before .before .before .args in
+    let a = m .before .before .before .before .before .args in
     left-none (scene (a .m .now) (a .vtx2xyz .now) (a .w) (a .h)) (a .tri2vtx .now) (a .first) (layer (a .pix2tri .now) (a .pix2depth .now)) (layer (m .loop .pix2tri) (m .loop .pix2depth)) (m .loop .i) (m .loop .number) (omega (arith, m .loop .inv .0)) (m .loop .inv .1)
 
 pub draw-faces-spec : {M : Type 1} → statement M
 draw-faces-spec =
     tie.close
-    (tie.spec Inv-loop μ-loop loop-holds mul-at mul-vertex shared-slice-read-vertex cast-vertex vertex-requires add-vertex mul-vertex-2
-    shared-slice-read-vertex-2 cast-vertex-2 vertex-requires-2 add-vertex-2 mul-vertex-3 shared-slice-read-vertex-3 cast-vertex-3 vertex-requires-3
-    draw-face-requires add-number add-i (λ c. omega arith) loop-again same-length same-length-2 returns)
+    (tie.spec Inv-loop μ-loop loop-holds draw-face-requires add-number add-i (λ c. omega arith) loop-again same-length same-length-2 returns)

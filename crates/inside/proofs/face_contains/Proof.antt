@@ -1,7 +1,7 @@
 use mathlib.Core.Path.{_∙_, ap}
 use Rattle.meshes.specs.Mesh.{faceAt}
 use Rattle.inside.specs.Inside.{allInside, allThree, projectFace, weightsIn, contains}
-use Rattle.inside.proofs.Corners.{found}
+use Rattle.meshes.specs.Laws.{found}
 use borrow.Author.Needs.{needs}
 use Rattle.inside.proofs.face_contains.Statement.{statement}
 use Rattle.inside.proofs.face_contains.Tie as tie

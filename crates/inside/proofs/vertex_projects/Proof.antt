@@ -1,5 +1,5 @@
 use Rattle.inside.specs.Inside.{present}
-use Rattle.inside.proofs.Corners.{found}
+use Rattle.meshes.specs.Laws.{found}
 use borrow.Author.Needs.{needs}
 use Rattle.inside.proofs.vertex_projects.Statement.{statement}
 use Rattle.inside.proofs.vertex_projects.Tie as tie

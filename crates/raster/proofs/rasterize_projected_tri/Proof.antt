@@ -1,8 +1,9 @@
 -- `raster::rasterize_projected_tri`: off the image, or the box of the piece on the screen.
 use borrow.Author.Needs.{needs}
-use borrow.Author.Tests.{not-true}
+use mathlib.Core.Path.{ap, _∙_}
+use borrow.Author.Tests.{not-true, not-false}
 use Rattle.cells.specs.Layer.{layer}
-use Rattle.rules.specs.Scan.{screened}
+use Rattle.rules.specs.Scan.{screened, finiteInPixels}
 use Rattle.pieces.specs.Answer.{pieceOf}
 use Rattle.boxes.specs.Answer.{screenOf}
 use Rattle.raster.proofs.Painting.{untouched, box-done}
@@ -14,7 +15,13 @@ returns c =
     let f = c .before .before .before .before in
     let a = f .args in
     untouched (screened (a .w) (a .h) (pieceOf (a .ndc))) (a .number) (a .w) (a .h) (layer (a .pix2tri .now) (a .pix2depth .now)) (f .pre .0) (f .pre .1)
-    (c .before .meets-image .ensures (not-true (c .before .meets-image .result) (c .if1 .taken)))
+    (c .before .meets-image .ensures .misses (not-true (c .before .meets-image .result) (c .if1 .taken)))
+
+box-of-requires : tie.Need-box-of-requires
+box-of-requires c κs =
+    let met = c .before .before .meets-image in
+    let size = c .before .before .before .before .before .pre .0 in
+    (size .w-most, (size .h-most, ap finiteInPixels (c .screened .ensures) ∙ met .ensures .all-finite (not-false (met .result) (c .before .if1 .left))))
 
 draw-box-requires : tie.Need-draw-box-requires
 draw-box-requires c κs =
@@ -35,4 +42,4 @@ pub rasterize-projected-tri-spec : {M : Type 1} → statement M
 rasterize-projected-tri-spec =
     tie.close
     (tie.spec
-    (λ c κs. search needs) returns (λ c κs. search needs) (λ c κs. search needs) draw-box-requires (λ c. search needs) (λ c. search needs) returns-2)
+    (λ c κs. search needs) returns (λ c κs. search needs) box-of-requires draw-box-requires (λ c. search needs) (λ c. search needs) returns-2)

@@ -1,15 +1,16 @@
 -- A piece with a corner not finite in pixels has weights nowhere: what is computed from an infinity or a NaN by sums and products is not finite.
-use mathlib.Core.Path.{_≡_, refl}
-use mathlib.Core.Bool.{Bool, true, false, _&&_, cond, false≢true}
+use mathlib.Core.Path.{_≡_, refl, sym, _∙_}
+use mathlib.Core.Bool.{Bool, true, false, cond, false≢true}
 use mathlib.Core.List.{[]}
 use lib.Dec.{eqb}
 use lib.Ieee.{Float, nan, inf, fin, binary32, add, sub, mul, neg}
 use lib.Ieee.Scale.{finite}
+use Rattle.lists.specs.Laws.Tests.{after-yes}
 use Rattle.geometry.specs.Arith.{floats}
 use Rattle.geometry.specs.Vector.{Vec2, Vec3, flat, Triangle}
 use Rattle.geometry.specs.Formula.{cross2, areas, total}
 use Rattle.geometry.specs.Leaf.{weighed, weighedAll, cornerWeights}
-use Rattle.rules.specs.Scan.{depthAt, weighedDepth}
+use Rattle.rules.specs.Scan.{allFinite, finiteInPixels, depthAt, weighedDepth}
 
 abbrev Both : Float → Float → Type 0
 Both x y = (finite x ≡ true) × (finite y ≡ true)
@@ -74,25 +75,16 @@ unfolding depthAt cornerWeights weighedAll weighed weighedDepth
 weightless s q true e h = absurd (h refl)
 weightless s q false e h = rw e
 
--- the three are finite
-abbrev pub allFinite : Float → Float → Float → Bool
-allFinite a b c = finite a && (finite b && finite c)
-
 three : (a b c : Float) → finite a ≡ true → finite b ≡ true → finite c ≡ true → allFinite a b c ≡ true
 three a b c d e f = rw (d, e, f)
 
-module _ (s : Triangle (Vec3 Float)) (q : Vec2 Float) where
-  -- no depth anywhere with a column not finite, or a row
-  pub columns-finite : allFinite (s .p0 .x) (s .p1 .x) (s .p2 .x) ≡ false → depthAt s q ≡ []
-  columns-finite n =
-      weightless s q _ refl
-      (λ e.
-      let k = finite-corners q (flat (s .p0)) (flat (s .p1)) (flat (s .p2)) e in
-      false≢true (rw n at (three (s .p0 .x) (s .p1 .x) (s .p2 .x) (k .0 .0) (k .1 .0 .0) (k .1 .1 .0))))
-
-  pub rows-finite : allFinite (s .p0 .y) (s .p1 .y) (s .p2 .y) ≡ false → depthAt s q ≡ []
-  rows-finite n =
-      weightless s q _ refl
-      (λ e.
-      let k = finite-corners q (flat (s .p0)) (flat (s .p1)) (flat (s .p2)) e in
-      false≢true (rw n at (three (s .p0 .y) (s .p1 .y) (s .p2 .y) (k .0 .1) (k .1 .0 .1) (k .1 .1 .1))))
+-- no depth anywhere
+pub nowhere : (s : Triangle (Vec3 Float)) (q : Vec2 Float) → finiteInPixels s ≡ false → depthAt s q ≡ []
+unfolding finiteInPixels
+nowhere s q n =
+    weightless s q _ refl
+    (λ e.
+    let k = finite-corners q (flat (s .p0)) (flat (s .p1)) (flat (s .p2)) e in
+    let columns = three (s .p0 .x) (s .p1 .x) (s .p2 .x) (k .0 .0) (k .1 .0 .0) (k .1 .1 .0) in
+    let rows = three (s .p0 .y) (s .p1 .y) (s .p2 .y) (k .0 .1) (k .1 .0 .1) (k .1 .1 .1) in
+    false≢true (sym n ∙ after-yes columns rows))

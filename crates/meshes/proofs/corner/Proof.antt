@@ -1,10 +1,10 @@
 use mathlib.Core.Path.{_∙_, ap}
 use native.Mathlib.Omega.{arith}
 use Rattle.geometry.specs.Leaf.{project}
 use Rattle.meshes.specs.Laws.{corner-there}
 use borrow.Author.Needs.{needs}
-use Rattle.inside.proofs.corner.Statement.{statement}
-use Rattle.inside.proofs.corner.Tie as tie
+use Rattle.meshes.proofs.corner.Statement.{statement}
+use Rattle.meshes.proofs.corner.Tie as tie
 
 cast-vertex : tie.Need-cast-vertex
 cast-vertex c = omega (arith, c .shared-slice-known3 .given (c .before .before .before .args .j))

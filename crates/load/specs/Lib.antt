@@ -1,0 +1,2 @@
+-- What the contracts of the load cite beside the rules.
+pub mod Answer
