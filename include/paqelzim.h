@@ -8,7 +8,7 @@
  * reaches that many of them, also where a call then refuses; of an empty slice it is not null all the same. Slices
  * that a call writes overlap no other of its slices.
  *
- * A call that can refuse answers a code: 0 where it is accepted, else the number of the first of its questions, in the
+ * A call that can refuse answers a code, alone or as the first field of a struct: 0 where it is accepted, else the number of the first of its questions, in the
  * order of its comment, that is answered no, and then nothing has been written. An accepted call writes the places that its
  * comment names; every other place keeps its bits. Nothing is stored there, but by two calls whose comments say so, which
  * store what it held again. That a NaN keeps its payload is tested and not proved: to the proofs there is one NaN.
@@ -57,6 +57,25 @@ uint32_t paqelzim_pix2tri_by_rasterization(uint32_t *pix2tri, size_t pix2tri_len
                                            const float *vtx2xyz, size_t vtx2xyz_len,
                                            size_t img_w, size_t img_h,
                                            const float *transform_world2ndc, uint32_t first);
+
+/* What paqelzim_drawing_load answers: its code; the pieces of all faces after clipping, none, one or two for each; and
+ * the pixels that the scans of these pieces offer, a pixel as often as it is offered. Both are 0 where the call refuses. */
+typedef struct {
+    uint32_t code;
+    uint64_t pieces;
+    uint64_t pixels;
+} paqelzim_DrawingLoad;
+
+/* Tells how much work it is to draw the faces of tri2vtx, without drawing them and without a layer: what
+ * paqelzim_pix2tri_by_rasterization clips and scans for the same mesh, size and matrix. A piece is scanned at the pixels
+ * whose centre lies in the closed box of its corners; one with a corner not finite in pixels counts as a piece, and is
+ * offered none. A face costs its projection, its clipping and its boxes, however many pixels they hold.
+ * Writes: nothing.
+ * Questions: 1; 3; 6. */
+paqelzim_DrawingLoad paqelzim_drawing_load(const uint32_t *tri2vtx, size_t tri2vtx_len,
+                                           const float *vtx2xyz, size_t vtx2xyz_len,
+                                           size_t img_w, size_t img_h,
+                                           const float *transform_world2ndc);
 
 /* Joins two layers: where the right layer's depth is greater, that depth and its number go into the left. A NaN is
  * never greater, and nothing is greater than a NaN.

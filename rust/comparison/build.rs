@@ -1,10 +1,14 @@
 //! Finds the listed Rust, in the folder that `DEL_MSH_SRC` names or in `../shared/docs/src` beside the
 //! repository, and has it compiled unchanged from there. Where it is not found, the comparison is left out.
-//! Of edgegrad.rs a second module has the places changed that 01 and 02 decide otherwise (docs/DIFFERENCES.md).
+//! Of edgegrad.rs a second module has the places changed that 01 and 02 decide otherwise (docs/DIFFERENCES.md), and of
+//! pix2tri.rs one that also counts its pieces and the pixels of the image that its scans offer (02, Point 6).
 use std::path::{Path, PathBuf};
 
-/// What the documents decide otherwise: how often it stands in the file, as listed and as changed.
-const CHANGES: [(usize, &str, &str); 4] = [
+/// How often a place stands in a file, as listed and as changed.
+type Change = (usize, &'static str, &'static str);
+
+/// What the documents decide otherwise.
+const CHANGES: [Change; 4] = [
     // an intersection's second point, which is listed with the first triangle's corners
     (
         1,
@@ -30,6 +34,20 @@ const CHANGES: [(usize, &str, &str); 4] = [
     ),
 ];
 
+/// A piece counted where its drawing begins, and a pixel of the image where the scan has offered it.
+const COUNTS: [Change; 2] = [
+    (
+        1,
+        "let (width, height) = img_shape;",
+        "crate::reference::piece(); let (width, height) = img_shape;",
+    ),
+    (
+        1,
+        "let i_pix = iy as usize * width + ix as usize;",
+        "crate::reference::pixel(); let i_pix = iy as usize * width + ix as usize;",
+    ),
+];
+
 /// The test of `bwd` with the arguments of the type call's.
 const INSIDE_BY_BWD: &str = "
 fn inside_by_bwd(
@@ -47,13 +65,18 @@ fn module(name: &str, file: &Path) -> String {
     format!("#[allow(warnings, clippy::all)]\n#[path = {file:?}]\npub mod {name};\n")
 }
 
-/// The file with each change made as often as it stands there, and neither the C library's hypot nor the type call's own
-/// test called any more.
-fn changed(mut file: String) -> String {
-    for (times, listed, changed) in CHANGES {
+/// The file with each change made as often as it stands there.
+fn with(changes: &[Change], mut file: String) -> String {
+    for &(times, listed, changed) in changes {
         assert_eq!(file.matches(listed).count(), times, "{listed}: {times}");
         file = file.replace(listed, changed);
     }
+    file
+}
+
+/// The file by the rules: neither the C library's hypot nor the type call's own test is called any more.
+fn by_the_rules(file: String) -> String {
+    let file = with(&CHANGES, file);
     assert!(!file.contains(".hypot("), "another hypot is listed");
     let tests = file.matches("fn_inside(").count();
     assert_eq!(tests, 1, "the type call's own test is left without a call");
@@ -76,15 +99,20 @@ fn main() {
         return;
     };
     println!("cargo:rustc-cfg=listed");
-    let edgegrad = folder.join("edgegrad.rs");
-    let listed =
-        std::fs::read_to_string(&edgegrad).expect("edgegrad.rs is listed beside pix2tri.rs");
-    let by_the_rules = out.join("edgegrad_by_the_rules.rs");
-    std::fs::write(&by_the_rules, changed(listed)).expect("the changed file is written");
+    let (pix2tri, edgegrad) = (folder.join("pix2tri.rs"), folder.join("edgegrad.rs"));
+    let read = |file: &Path| std::fs::read_to_string(file).expect("both files are listed");
+    let write = |name: &str, file: String| {
+        let path = out.join(name);
+        std::fs::write(&path, file).expect("a changed file is written");
+        path
+    };
+    let rules = write("edgegrad_by_the_rules.rs", by_the_rules(read(&edgegrad)));
+    let counting = write("pix2tri_counting.rs", with(&COUNTS, read(&pix2tri)));
     let modules = [
-        module("pix2tri", &folder.join("pix2tri.rs")),
+        module("pix2tri", &pix2tri),
+        module("pix2tri_counting", &counting),
         module("edgegrad", &edgegrad),
-        module("edgegrad_by_the_rules", &by_the_rules),
+        module("edgegrad_by_the_rules", &rules),
     ];
     std::fs::write(out.join("listed.rs"), modules.concat()).expect("the modules are written");
 }

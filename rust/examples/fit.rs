@@ -34,7 +34,12 @@ fn main() -> Result<(), Failure> {
     let scene = Scene::new(Pose::seated().moved(&HIDDEN))?;
     let num_tri = scene.housing.tri2vtx.len() / 3;
     let (img_w, img_h) = (scene.camera.img_w, scene.camera.img_h);
-    println!("a housing of {num_tri} faces, a picture of {img_w} x {img_h}, {CHANNELS} channels\n");
+    println!("a housing of {num_tri} faces, a picture of {img_w} x {img_h}, {CHANNELS} channels");
+    let load = scene.load(&Pose::seated().moved(&START))?;
+    println!(
+        "to draw it at the start: {} pieces, offered {} pixels\n",
+        load.pieces, load.pixels
+    );
     let whole = whole_fit(&scene)?;
     let (before, after) = (&whole[0], &whole[ITERATIONS]);
     println!(

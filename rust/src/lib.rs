@@ -43,7 +43,7 @@ mod layers;
 mod refusal;
 mod values;
 
-pub use drawing::pix2tri_by_rasterization;
+pub use drawing::{drawing_load, pix2tri_by_rasterization, DrawingLoad};
 pub use edges::{bwd, edge_gradient_and_type, interpolate_from_edges};
 pub use float_tools::{hypot_f32, narrow_f64_to_f32, sqrt_f32, sqrt_f64};
 pub use layers::{clear, join};

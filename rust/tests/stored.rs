@@ -2,12 +2,12 @@
 //! its cases, and `answered` the answers of the listed Rust where they are accepted, and of 01's questions elsewhere;
 //! comparison/examples/answers.rs and pass_answers.rs wrote them. A word is eight hexadecimal digits, a slice its
 //! length and its words; a case begins with its call (1 clear, 2 draw, 3 join, 4 values, 5 values backward, 6 edge
-//! types, 7 edges backward, 8 velocities), width and height. The answer is the code, then every buffer that the call
-//! writes, a line each.
+//! types, 7 edges backward, 8 velocities, 9 load), width and height. The answer is the code, then every buffer that the
+//! call writes, a line each, or the load's pieces and pixels.
 
 use paqelzim::{
-    bwd, clear, edge_gradient_and_type, interpolate, interpolate_bwd, interpolate_from_edges, join,
-    pix2tri_by_rasterization, Refusal,
+    bwd, clear, drawing_load, edge_gradient_and_type, interpolate, interpolate_bwd,
+    interpolate_from_edges, join, pix2tri_by_rasterization, Refusal,
 };
 
 fn words(text: &str) -> Vec<u32> {
@@ -140,11 +140,20 @@ fn on_a_grid(w: usize, h: usize, asked: &mut Asked) -> Answer {
     Answer::new(code).floats(&velo)
 }
 
+/// Call 9.
+fn of_load(w: usize, h: usize, asked: &mut Asked) -> Answer {
+    let (tri, xyz, m) = (asked.numbers(), asked.floats(), asked.matrix());
+    let load = drawing_load(&tri, &xyz, w, h, &m);
+    let counts = load.unwrap_or_default();
+    let word = |n: u64| u32::try_from(n).expect("a word");
+    Answer::new(load.map(|_| ())).numbers(&[word(counts.pieces), word(counts.pixels)])
+}
+
 /// Runs every case of a file and compares its answer line by line.
-fn replay(asked: &str, answered: &str, cases: [usize; 9]) {
+fn replay(asked: &str, answered: &str, cases: [usize; 10]) {
     let mut asked = Asked(words(asked).into_iter());
     let mut lines = answered.lines();
-    let mut met = [0; 9];
+    let mut met = [0; 10];
     while let Some(call) = asked.0.next() {
         let (w, h) = (asked.size(), asked.size());
         met[call as usize] += 1;
@@ -152,7 +161,8 @@ fn replay(asked: &str, answered: &str, cases: [usize; 9]) {
             1..=3 => on_layers(call, w, h, &mut asked),
             4 | 5 => on_values(call, w, h, &mut asked),
             6 | 7 => on_edges(call, w, h, &mut asked),
-            _ => on_a_grid(w, h, &mut asked),
+            8 => on_a_grid(w, h, &mut asked),
+            _ => of_load(w, h, &mut asked),
         };
         for ours in answer.0 {
             let stored = words(lines.next().expect("an answer"));
@@ -168,7 +178,7 @@ fn layers_as_stored() {
     replay(
         include_str!("stored/layers.asked"),
         include_str!("stored/layers.answered"),
-        [0, 37, 299, 37, 0, 0, 0, 0, 0],
+        [0, 37, 299, 37, 0, 0, 0, 0, 0, 0],
     );
 }
 
@@ -177,6 +187,15 @@ fn passes_as_stored() {
     replay(
         include_str!("stored/passes.asked"),
         include_str!("stored/passes.answered"),
-        [0, 0, 0, 0, 80, 80, 80, 80, 80],
+        [0, 0, 0, 0, 80, 80, 80, 80, 80, 0],
+    );
+}
+
+#[test]
+fn load_as_stored() {
+    replay(
+        include_str!("stored/load.asked"),
+        include_str!("stored/load.answered"),
+        [0, 0, 0, 0, 0, 0, 0, 0, 0, 150],
     );
 }

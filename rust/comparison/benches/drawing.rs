@@ -1,4 +1,4 @@
-//! The drawing beside the listed Rust's, on one thread in one run: figures, not a test. Run by
+//! The drawing beside the listed Rust's, and the load beside the drawing, on one thread in one run: figures, not a test. Run by
 //! `cargo bench --offline -p comparison --bench drawing`.
 use comparison::random::Random;
 use comparison::scene::{Scene, EMPTY};
@@ -125,6 +125,48 @@ fn draw(name: &str, scene: &Scene) {
     println!("{name:<36}{time:>8.2} ms; the listed Rust was not found");
 }
 
+fn load(scene: &mut Scene) {
+    let load = paqelzim::drawing_load(
+        &scene.tri2vtx,
+        &scene.vtx2xyz,
+        scene.img_w,
+        scene.img_h,
+        &scene.transform_world2ndc,
+    );
+    std::hint::black_box(load.expect("the mesh is accepted"));
+}
+
+fn load_beside_drawing(name: &str, scene: &Scene) {
+    let times = least(scene, &mut [&mut load, &mut ours]);
+    let ratio = times[0] / times[1];
+    println!(
+        "load of {name:<36}{:>8.2} ms, drawing {:>8.2} ms, ratio {ratio:.2}",
+        times[0], times[1]
+    );
+}
+
+/// The load of one mesh at two sizes, neither of which has a layer.
+fn load_at_two_sizes(count: usize, sides: [usize; 2]) {
+    let mut scene = mesh(count, 64, (25.0, 64.0), 0.0);
+    (scene.pix2tri, scene.pix2depth) = (Vec::new(), Vec::new());
+    let mut at = sides.map(|side| {
+        move |scene: &mut Scene| {
+            (scene.img_w, scene.img_h) = (side, side);
+            load(scene);
+        }
+    });
+    let [first, second] = &mut at;
+    let times = least(&scene, &mut [first, second]);
+    println!(
+        "load of {count} large faces{:>8.2} ms at {} × {1}, {:.2} ms at {} × {3}, ratio {:.2}",
+        times[0],
+        sides[0],
+        times[1],
+        sides[1],
+        times[0] / times[1]
+    );
+}
+
 fn main() {
     let small = mesh(50_000, 512, (3.0, 20.0), 0.0);
     draw("50,000 small faces at 512 × 512", &small);
@@ -136,8 +178,14 @@ fn main() {
     draw("1,000 slivers at 1,024 × 1,024", &thin);
     let tiny = mesh(200_000, 2048, (1.0, 2.0), 0.0);
     draw("200,000 tiny faces at 2,048 × 2,048", &tiny);
+    let million = ball(1_000, 500, 2048, 1.0);
+    draw("a ball of 1,000,000 faces at 2,048²", &million);
     let beside = mesh(200_000, 512, (3.0, 20.0), 2.5);
     draw("200,000 faces beside the image", &beside);
     let near = ball(500, 200, 512, 20.0);
     draw("200,000 faces, most off the image", &near);
+    println!();
+    load_beside_drawing("50,000 small faces", &small);
+    load_beside_drawing("a ball of 1,000,000 tiny faces", &million);
+    load_at_two_sizes(100_000, [4096, 64]);
 }

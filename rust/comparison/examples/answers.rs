@@ -1,4 +1,4 @@
-//! Writes the stored cases rust/tests/stored/layers: `asked`, the arguments of each call, and `answered`, its answer, by the
+//! Writes the stored cases rust/tests/stored/layers and load: `asked`, the arguments of each call, and `answered`, its answer, by the
 //! listed Rust where a scene is accepted and by 01's words (`expected`) elsewhere. Run at the root of the
 //! repository by `cargo run --release --offline --manifest-path rust/Cargo.toml -p comparison --example answers`.
 //! A number after `--` gives another count of scenes than 300.
@@ -14,12 +14,15 @@ fn main() -> std::io::Result<()> {
     let mut cases = comparison::stored::Cases::default();
     layers::draws(&mut cases, count);
     layers::clears_and_joins(&mut cases, count / 8);
-    cases.write("layers")
+    cases.write("layers")?;
+    let mut cases = comparison::stored::Cases::default();
+    layers::loads(&mut cases, count / 2);
+    cases.write("load")
 }
 
 #[cfg(listed)]
 mod layers {
-    use comparison::expected::{clear_code, draw_code, join_code, joined, CLEAR};
+    use comparison::expected::{clear_code, draw_code, join_code, joined, load_code, CLEAR};
     use comparison::random::Random;
     use comparison::reference;
     use comparison::scene::{scene, Scene};
@@ -76,6 +79,38 @@ mod layers {
             ];
             let head = [2, scene.img_w as u32, scene.img_h as u32];
             cases.add(&head, &asked, code, &outcome(&pix2tri, &pix2depth));
+        }
+    }
+
+    /// Of six scenes four that are offered a pixel, one accepted that is not, one refused.
+    pub fn loads(cases: &mut Cases, count: usize) {
+        let mut left = [count * 4 / 6, count / 6, count / 6];
+        for scene in (0..).map(scene).filter(fits) {
+            if left == [0; 3] {
+                return;
+            }
+            let code = load_code(&scene);
+            let (pieces, pixels) = match code {
+                0 => reference::load(&scene),
+                _ => (0, 0),
+            };
+            let kind = match code {
+                0 => usize::from(pixels == 0),
+                _ => 2,
+            };
+            if left[kind] == 0 {
+                continue;
+            }
+            left[kind] -= 1;
+            let asked = [
+                numbers(&scene.tri2vtx),
+                floats(&scene.vtx2xyz),
+                line(scene.transform_world2ndc.map(f32::to_bits)),
+            ];
+            let word = |n: u64| u32::try_from(n).expect("a word");
+            let answered = answer_numbers(&[word(pieces), word(pixels)]);
+            let head = [9, scene.img_w as u32, scene.img_h as u32];
+            cases.add(&head, &asked, code, &[answered]);
         }
     }
 

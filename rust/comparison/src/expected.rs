@@ -54,6 +54,14 @@ pub fn draw_code(scene: &Scene) -> u32 {
     ])
 }
 
+pub fn load_code(scene: &Scene) -> u32 {
+    first_no(&[
+        (1, &|| size_is_asked(scene.img_w, scene.img_h)),
+        (3, &|| mesh_is_whole(&scene.tri2vtx, &scene.vtx2xyz)),
+        (6, &|| faces_name_vertices(&scene.tri2vtx, &scene.vtx2xyz)),
+    ])
+}
+
 /// The questions of a pass: with the lengths that 4 asks, and with 8.
 fn pass_code(pass: &Pass, exact: &dyn Fn() -> bool, projected: &dyn Fn() -> bool) -> u32 {
     let faces = pass.tri2vtx.len() / 3;

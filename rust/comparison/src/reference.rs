@@ -7,6 +7,20 @@ use std::sync::Once;
 
 thread_local! {
     static QUIET: Cell<bool> = const { Cell::new(false) };
+    /// The pieces and the scanned pixels that the counting file has met.
+    static COUNTED: Cell<(u64, u64)> = const { Cell::new((0, 0)) };
+}
+
+/// The counting file draws a piece.
+pub fn piece() {
+    let (pieces, pixels) = COUNTED.get();
+    COUNTED.set((pieces + 1, pixels));
+}
+
+/// Its scan has offered a pixel of the image.
+pub fn pixel() {
+    let (pieces, pixels) = COUNTED.get();
+    COUNTED.set((pieces, pixels + 1));
 }
 
 /// What a listed call leaves, or nothing where it panics, without a word.
@@ -190,6 +204,22 @@ pub fn drawn(scene: &Scene) -> (Vec<u32>, Vec<f32>) {
     let number = |(&old, &new): (&u32, &u32)| if new == EMPTY { old } else { new + scene.first };
     let numbers = scene.pix2tri.iter().zip(&written).map(number).collect();
     (numbers, depths)
+}
+
+/// The pieces and the scanned pixels of the listed Rust while it draws an accepted mesh.
+pub fn load(scene: &Scene) -> (u64, u64) {
+    let pixels = scene.img_w * scene.img_h;
+    COUNTED.set((0, 0));
+    del_geo_core::tri2_scanline::of_image(scene.img_w, scene.img_h);
+    crate::pix2tri_counting::pix2tri_by_rasterization::<u32>(
+        &mut vec![EMPTY; pixels],
+        &mut vec![f32::NEG_INFINITY; pixels],
+        scene.tri2vtx.as_chunks::<3>().0,
+        scene.vtx2xyz.as_chunks::<3>().0,
+        (scene.img_w, scene.img_h),
+        &scene.transform_world2ndc,
+    );
+    COUNTED.get()
 }
 
 /// Which way a face goes through the listed drawing.

@@ -2,7 +2,7 @@
 use crate::camera::Camera;
 use crate::housing::{Housing, CHANNELS};
 use crate::pose::Pose;
-use paqelzim::Refusal;
+use paqelzim::{DrawingLoad, Refusal};
 
 const EMPTY: u32 = u32::MAX;
 const BACKGROUND: [f32; CHANNELS] = [0.06, 0.07, 0.09];
@@ -74,6 +74,17 @@ impl Scene {
         };
         scene.target = scene.seen(&scene.hidden, &Way::default(), 0)?.pix2val;
         Ok(scene)
+    }
+
+    /// How much work it is to draw the housing in a pose.
+    pub fn load(&self, pose: &Pose) -> Result<DrawingLoad, Refusal> {
+        paqelzim::drawing_load(
+            &self.housing.tri2vtx,
+            &pose.placed(&self.housing.points),
+            self.camera.img_w,
+            self.camera.img_h,
+            &self.camera.world2ndc,
+        )
     }
 
     /// Draws the pose, takes its values, and goes back from their difference to the vertices.

@@ -175,6 +175,22 @@ static void drawing(void) {
     }
 }
 
+/* T(0.25) and a face with a corner nowhere on 2 x 2; refused, every field but the code is 0. */
+static void load(void) {
+    const uint32_t faces[6] = {0, 1, 2, 0, 1, 3}, bad[3] = {0, 1, 4};
+    float corner[12] = {-1.0f, -1.0f, 0.25f, 3.0f, -1.0f, 0.25f, -1.0f, 3.0f, 0.25f, 0.0f, 0.0f, 0.0f};
+    paqelzim_DrawingLoad answer;
+    corner[9] = float_of(0x7f800000u);
+    answer = paqelzim_drawing_load(faces, 6, corner, 12, 2, 2, identity);
+    expect(answer.code == 0 && answer.pieces == 2 && answer.pixels == 4, "two pieces, four pixels");
+    answer = paqelzim_drawing_load(bad, 3, corner, 12, 2, 2, identity);
+    expect(answer.code == 6 && answer.pieces == 0 && answer.pixels == 0, "a load refused with 6");
+    answer = paqelzim_drawing_load(faces, 5, corner, 12, 2, 2, identity);
+    expect(answer.code == 3 && answer.pieces == 0 && answer.pixels == 0, "a load refused with 3");
+    answer = paqelzim_drawing_load(faces, 6, corner, 12, 2, 4097, identity);
+    expect(answer.code == 1 && answer.pieces == 0 && answer.pixels == 0, "a load refused with 1");
+}
+
 int main(void) {
     float_tools();
     nans();
@@ -185,5 +201,6 @@ int main(void) {
     edges_backward();
     velocities();
     drawing();
+    load();
     return wrong == 0 ? 0 : 1;
 }
