@@ -1,4 +1,4 @@
 -- Lemmas that several proofs cite.
-pub mod Boxed
+pub mod Pixels
 pub mod Counted
 pub mod Accepted

@@ -2,7 +2,7 @@
 use native.Mathlib.Omega.{arith}
 use borrow.Author.Needs.{needs}
 use Rattle.rules.specs.Scan.{screened, onScreen}
-use Rattle.load.proofs.Boxed.{counted, no-columns, product-fits}
+use Rattle.load.proofs.Pixels.{counted, no-columns, product-fits}
 use Rattle.load.proofs.piece_pixels.Statement.{statement}
 use Rattle.load.proofs.piece_pixels.Tie as tie
 

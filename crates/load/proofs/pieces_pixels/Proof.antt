@@ -2,7 +2,7 @@
 use native.Mathlib.Omega.{arith}
 use borrow.Author.Needs.{needs}
 use Rattle.rules.specs.Piece.{twoPieces}
-use Rattle.load.proofs.Boxed.{sum-of-none, sum-of-one, sum-of-two, two-fit}
+use Rattle.load.proofs.Pixels.{sum-of-none, sum-of-one, sum-of-two, two-fit}
 use Rattle.load.proofs.pieces_pixels.Statement.{statement}
 use Rattle.load.proofs.pieces_pixels.Tie as tie
 
