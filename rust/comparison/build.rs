@@ -1,7 +1,8 @@
 //! Finds the listed Rust, in the folder that `DEL_MSH_SRC` names or in `../shared/docs/src` beside the
 //! repository, and has it compiled unchanged from there. Where it is not found, the comparison is left out.
 //! Of edgegrad.rs a second module has the places changed that 01 and 02 decide otherwise (docs/DIFFERENCES.md), and of
-//! pix2tri.rs one that also counts its pieces and the pixels of the image that its scans offer (02, Point 6).
+//! pix2tri.rs one that also keeps its pieces, counts the pixels of the image that its scans offer (02, Point 6), and has its
+//! scan of one piece public (02, Point 7).
 use std::path::{Path, PathBuf};
 
 /// How often a place stands in a file, as listed and as changed.
@@ -34,17 +35,23 @@ const CHANGES: [Change; 4] = [
     ),
 ];
 
-/// A piece counted where its drawing begins, and a pixel of the image where the scan has offered it.
-const COUNTS: [Change; 2] = [
+/// A piece kept where its drawing begins, a pixel of the image counted where the scan has offered it, and the scan of one piece,
+/// which is private in the file, made public.
+const COUNTS: [Change; 3] = [
     (
         1,
         "let (width, height) = img_shape;",
-        "crate::reference::piece(); let (width, height) = img_shape;",
+        "crate::reference::piece(ndc); let (width, height) = img_shape;",
     ),
     (
         1,
         "let i_pix = iy as usize * width + ix as usize;",
         "crate::reference::pixel(); let i_pix = iy as usize * width + ix as usize;",
+    ),
+    (
+        1,
+        "fn rasterize_projected_tri<Index>(",
+        "pub fn rasterize_projected_tri<Index>(",
     ),
 ];
 

@@ -1,2 +1,6 @@
 -- Lemmas that several proofs cite.
-pub mod Steps
+pub mod Centres
+pub mod Down
+pub mod One
+pub mod Going
+pub mod Four

@@ -1,2 +1,3 @@
--- What the contracts of four pixels of a layer cite beside the rules.
-pub mod Step
+-- What the contracts of visits cite beside the rules.
+pub mod Rows
+pub mod Greater

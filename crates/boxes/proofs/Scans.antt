@@ -108,7 +108,7 @@ module _ (s : Triangle (Vec3 Float)) (w h : ℕ) where
         visits = λ ix iy k l. rw (f, spans-range x ix k, spans-range y iy l);
       }
 
-  none-scanned : ((ix iy : ℕ) → ix < w → iy < h → scans s ix iy ≡ false) → Scanned s w h (box 0 0 0 0)
+  pub none-scanned : ((ix iy : ℕ) → ix < w → iy < h → scans s ix iy ≡ false) → Scanned s w h (box 0 0 0 0)
   unfolding inBox
   none-scanned e =
       record {

@@ -22,13 +22,13 @@ pub fn clear_pixels(pix2tri: &mut [u32], pix2depth: &mut [f32], n: usize)
 
 // The depth, and below the number, of what is left of two pixels. Each is a choice between two values and no
 // branch, so that the compiler joins several pixels at a time.
-pub fn pick_depth(left: f32, right: f32) -> f32
+fn pick_depth(left: f32, right: f32) -> f32
     ensures { λ r. ⌜ r ≡ cond (lt left right) right left ⌝ }
 {
     if left < right { right } else { left }
 }
 
-pub fn pick_number(left: f32, right: f32, left_tri: u32, right_tri: u32) -> u32
+fn pick_number(left: f32, right: f32, left_tri: u32, right_tri: u32) -> u32
     ensures { λ r. ⌜ r ≡ cond (lt left right) «right_tri» «left_tri» ⌝ }
 {
     if left < right { right_tri } else { left_tri }

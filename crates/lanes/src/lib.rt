@@ -1,8 +1,7 @@
-// One pixel: the depth that a piece on the screen has there, or −infinity. It is worked out in two ways: `depth_at` leaves off where there is none, and `lane`
-// goes straight on, so that the compiler works out several pixels side by side.
+// The depth that a piece on the screen has at a pixel, or −infinity, worked out straight on, with no early end, so that the compiler works out several pixels
+// side by side. It tells which pixels can be greater than what is stored; a visit of those works their depth out anew, and leaves off where there is none.
 
 use boxes::Screen;
-use geometry::CornerWeights;
 use geometry::Vec2;
 ghost use mathlib.Core.Path.{_≡_};
 ghost use mathlib.Core.Bool.{cond};
@@ -20,7 +19,7 @@ fn below(b: f32) -> bool
     b < -1e-5
 }
 
-fn dropped(b0: f32, b1: f32, b2: f32) -> bool
+pub fn dropped(b0: f32, b1: f32, b2: f32) -> bool
     ensures { λ r. ⌜ r ≡ rule.dropped (weights b0 b1 b2) ⌝ }
 {
     if below(b0) {
@@ -30,22 +29,6 @@ fn dropped(b0: f32, b1: f32, b2: f32) -> bool
         return true;
     }
     below(b2)
-}
-
-pub fn depth_at(s: Screen, qx: f32, qy: f32) -> f32
-    ensures { λ r. ⌜ r ≡ orLowest (rule.depthAt (screenOf s) (vec2 qx qy)) ⌝ }
-{
-    let q = Vec2 { x: qx, y: qy };
-    let p0 = Vec2 { x: s.x0, y: s.y0 };
-    let p1 = Vec2 { x: s.x1, y: s.y1 };
-    let p2 = Vec2 { x: s.x2, y: s.y2 };
-    let CornerWeights::Three(b0, b1, b2) = geometry::corner_weights(q, p0, p1, p2) else {
-        return f32::from_bits(0xff80_0000);
-    };
-    if dropped(b0, b1, b2) {
-        return f32::from_bits(0xff80_0000);
-    }
-    geometry::blend(b0, b1, b2, s.z0, s.z1, s.z2)
 }
 
 // −infinity in the place of z where there is none.
@@ -58,7 +41,7 @@ fn unless(none: bool, z: f32) -> f32
     z
 }
 
-// The same depth, or −infinity. What the divisions give where there are no weights counts for nothing.
+// What the divisions give where there are no weights counts for nothing.
 pub fn lane(s: Screen, qx: f32, qy: f32) -> f32
     ensures { λ r. ⌜ r ≡ orLowest (rule.depthAt (screenOf s) (vec2 qx qy)) ⌝ }
 {

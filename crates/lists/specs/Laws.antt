@@ -4,3 +4,4 @@ pub mod Tables
 pub mod Every
 pub mod Turns
 pub mod Sums
+pub mod Filters

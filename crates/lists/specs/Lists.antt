@@ -1,4 +1,4 @@
--- Tables of a function, numbers in a row, a test of each, and sums.
+-- Tables of a function, numbers in a row, a test of each, those that pass one, and sums.
 use Prim.Native.Nat.{ℕ, zero, suc, _+_}
 use mathlib.Core.Bool.{Bool, true, _&&_, cond}
 use mathlib.Core.List.{List, [], _∷_, map, sum}
@@ -16,6 +16,11 @@ span a n = tabulate (λ i. i) a n
 unfoldable pub every : (ℕ → Bool) → List ℕ → Bool
 every test [] = true
 every test (x ∷ xs) = test x && every test xs
+
+-- the entries of a list that pass a test, in order
+unfoldable pub filter : {A : Type 0} → (A → Bool) → List A → List A
+filter test [] = []
+filter test (x ∷ xs) = cond (test x) (x ∷ filter test xs) (filter test xs)
 
 -- f of each entry of a list, added up
 unfoldable pub sumOf : {A : Type 0} → (A → ℕ) → List A → ℕ

@@ -2,7 +2,7 @@
 use Prim.Native.Nat.{ℕ, zero, suc, _+_, _*_, _-_, _/_, _%_, _<_, _≤_}
 use mathlib.Core.Path.{_≡_, sym, _∙_, ap, ap₂}
 use mathlib.Core.Bool.{Bool, true, false, _&&_, cond, and-true, and-false}
-use native.Mathlib.Nat.{add-zero, div-eq-of-lt, div-eq-of-lt-le, div-add-mod', div-lt-iff-lt-mul, mod-eq-of-lt, mod-lt, mul-add-div-right, mul-add-mod-self-right, mul-zero, zero-mul, mul-add, mul-comm, mul-le-mul, mul-le-mul-right}
+use native.Mathlib.Nat.{add-zero, div-eq-of-lt, div-eq-of-lt-le, div-add-mod', div-lt-iff-lt-mul, mod-eq-of-lt, mul-add-div-right, mul-add-mod-self-right, mul-zero, zero-mul, mul-add, mul-comm, mul-le-mul, mul-le-mul-right}
 use native.Mathlib.Omega.{arith}
 use Rattle.lists.specs.Lists.{span, count}
 use Rattle.lists.specs.Laws.Sums.{count-add, count-same, count-alike}
@@ -53,13 +53,6 @@ row-at n y x h = mul-add-div-right {m = n} (omega arith) y x ∙ ap (λ (k : ℕ
 
 pub column-at : (n y x : ℕ) → x < n → (y * n + x) % n ≡ x
 column-at n y x h = mul-add-mod-self-right y n x ∙ mod-eq-of-lt h
-
--- column and row of a pixel of the image
-pub column-below : {w : ℕ} (p : ℕ) → 0 < w → p % w < w
-column-below p some = mod-lt p some
-
-pub row-below : {w h : ℕ} (p : ℕ) → 0 < w → p < w * h → p / w < h
-row-below {w} {h} p some l = div-lt-iff-lt-mul some .1 (omega (arith, mul-comm w h))
 
 -- the number of a pixel of the image, and a bound on how many there are
 pub number-below : {w h x y : ℕ} → x < w → y < h → y * w + x < w * h

@@ -1,3 +1,2 @@
--- What the contracts of a face and its pieces cite beside the rules.
-pub mod Piece
+-- What the contracts of a face's pieces cite beside the rules.
 pub mod Face

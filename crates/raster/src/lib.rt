@@ -15,13 +15,34 @@ ghost use Rattle.rules.specs.Piece.{cornersPieces};
 ghost use Rattle.rules.specs.Offers.{scene, facePieces};
 ghost use Rattle.corners.specs.Answer.{cornerOf};
 ghost use Rattle.rules.specs.Draw.{painted};
-ghost use Rattle.rules.specs.Scan as rule;
+ghost use Rattle.rules.specs.Visits.{pieceCells, stoppedAfter};
 ghost use Rattle.pieces.specs.Answer.{pieceOf, piecesOf};
-ghost use Rattle.raster.specs.Piece.{pieceCells};
 ghost use Rattle.raster.specs.Face.{piecesCells};
 
-// The Rust's rasterize_projected_tri: one piece, off the image, or the scan of its box.
-fn rasterize_projected_tri(
+// The Rust's rasterize_projected_tri: one piece, off the image, or the scan of its box; stopped after n visits.
+pub fn rasterize_projected_tri(
+    pix2tri: &mut [u32],
+    pix2depth: &mut [f32],
+    w: usize,
+    h: usize,
+    number: u32,
+    ndc: [[f32; 3]; 3],
+    n: usize,
+)
+    requires { ⌜ Sized 1 w h ⌝ }
+    requires { ⌜ Spans (layer (now pix2tri) (now pix2depth)) (w * h) ⌝ }
+    ensures { λ _. ⌜ layer (now (pix2tri .exit)) (now (pix2depth .exit)) ≡ stoppedAfter n w h (pieceOf ndc) number (layer (now (pix2tri .entry)) (now (pix2depth .entry))) ⌝ }
+{
+    if !boxes::meets_image(w, h, ndc) {
+        return;
+    }
+    let s = boxes::screened(w, h, ndc);
+    let b = boxes::box_of(w, h, s);
+    scan::visit_box(pix2tri, pix2depth, w, h, s, number, b, n);
+}
+
+// One piece, whole: the scan may make as many visits as the largest image has pixels.
+fn draw_piece(
     pix2tri: &mut [u32],
     pix2depth: &mut [f32],
     w: usize,
@@ -31,14 +52,9 @@ fn rasterize_projected_tri(
 )
     requires { ⌜ Sized 1 w h ⌝ }
     requires { ⌜ Spans (layer (now pix2tri) (now pix2depth)) (w * h) ⌝ }
-    ensures { λ _. ⌜ layer (now (pix2tri .exit)) (now (pix2depth .exit)) ≡ painted (pieceCells (rule.screened w h (pieceOf ndc)) number w) (w * h) (layer (now (pix2tri .entry)) (now (pix2depth .entry))) ⌝ }
+    ensures { λ _. ⌜ layer (now (pix2tri .exit)) (now (pix2depth .exit)) ≡ painted (pieceCells w h (pieceOf ndc) number) (w * h) (layer (now (pix2tri .entry)) (now (pix2depth .entry))) ⌝ }
 {
-    if !boxes::meets_image(w, h, ndc) {
-        return;
-    }
-    let s = boxes::screened(w, h, ndc);
-    let b = boxes::box_of(w, h, s);
-    scan::draw_box(pix2tri, pix2depth, w, h, s, number, b);
+    rasterize_projected_tri(pix2tri, pix2depth, w, h, number, ndc, 16_777_216);
 }
 
 fn draw_pieces(
@@ -57,17 +73,17 @@ fn draw_pieces(
         Pieces::Nothing => {}
         Pieces::Whole(a, b, c) => {
             let t = pieces::whole(a, b, c);
-            rasterize_projected_tri(pix2tri, pix2depth, w, h, number, t);
+            draw_piece(pix2tri, pix2depth, w, h, number, t);
         }
         Pieces::One(a, b, c) => {
             let t = pieces::one_piece(a, b, c);
-            rasterize_projected_tri(pix2tri, pix2depth, w, h, number, t);
+            draw_piece(pix2tri, pix2depth, w, h, number, t);
         }
         Pieces::Two(c, a, b) => {
             let t = pieces::first_piece(c, a, b);
-            rasterize_projected_tri(pix2tri, pix2depth, w, h, number, t);
+            draw_piece(pix2tri, pix2depth, w, h, number, t);
             let u = pieces::second_piece(c, a, b);
-            rasterize_projected_tri(pix2tri, pix2depth, w, h, number, u);
+            draw_piece(pix2tri, pix2depth, w, h, number, u);
         }
     }
 }
@@ -90,7 +106,7 @@ fn draw_corners(
 {
     if pieces::stays_whole(t11, v0, v1, v2) {
         let t = pieces::whole(v0, v1, v2);
-        rasterize_projected_tri(pix2tri, pix2depth, w, h, number, t);
+        draw_piece(pix2tri, pix2depth, w, h, number, t);
         return;
     }
     let ps = pieces::clip(t11, v0, v1, v2);

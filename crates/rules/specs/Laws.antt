@@ -4,3 +4,6 @@ pub mod Centre
 pub mod Finite
 pub mod Unscanned
 pub mod Load
+pub mod Order
+pub mod Visits
+pub mod Visited

@@ -1,6 +1,3 @@
 -- Lemmas that several proofs cite.
-pub mod Boxes
-pub mod Pixel
-pub mod Centres
-pub mod Turns
-pub mod Blocks
+pub mod Order
+pub mod Columns

@@ -1,2 +1,2 @@
 -- What the contracts of a scan cite beside the rules.
-pub mod Cells
+pub mod Columns

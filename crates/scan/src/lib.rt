@@ -1,20 +1,21 @@
-// The scan of a box: row by row, left to right, four pixels at a time.
+// The scan of a box: column by column, leftmost first, each from the top; stopped after so many visits.
 
 use boxes::Box;
 use boxes::Screen;
 ghost use mathlib.Core.Path.{_≡_};
 ghost use Prim.Native.Nat.{ℕ, _+_, _*_, _≤_, _<_};
+ghost use lib.ListN.{take};
 ghost use Rattle.questions.specs.Laws.{Sized};
 ghost use Rattle.cells.specs.Layer.{layer};
 ghost use Rattle.cells.specs.Steps.{Spans};
-ghost use Rattle.pixels.specs.Pixel.{centre};
-ghost use Rattle.rules.specs.Draw.{painted};
+ghost use Rattle.rules.specs.Visits.{visited};
 ghost use Rattle.boxes.specs.Answer.{screenOf};
-ghost use Rattle.boxes.specs.Box.{box, Within};
-ghost use Rattle.scan.specs.Cells.{boxCells, upTo};
+ghost use Rattle.boxes.specs.Box.{Within};
+ghost use Rattle.blocks.specs.Rows.{depthCells, rowsDown, upTo};
+ghost use Rattle.scan.specs.Columns.{boxVisits, Allowed};
 
-// The pixel of column ix and row iy.
-fn draw_pixel(
+// Rows y0 to y1 of column ix, one by one.
+fn visit_rows(
     pix2tri: &mut [u32],
     pix2depth: &mut [f32],
     w: usize,
@@ -22,49 +23,45 @@ fn draw_pixel(
     s: Screen,
     number: u32,
     ix: usize,
-    iy: usize,
+    y0: usize,
+    y1: usize,
 )
     requires { ⌜ Sized 1 w h ⌝ }
     requires { ⌜ Spans (layer (now pix2tri) (now pix2depth)) (w * h) ⌝ }
     requires { ⌜ ix < w ⌝ }
-    requires { ⌜ iy < h ⌝ }
+    requires { ⌜ Within y0 y1 h ⌝ }
     ensures { λ _. ⌜ layer (now (pix2tri .exit)) (now (pix2depth .exit))
-        ≡ painted (boxCells (screenOf s) number w (box ix (ix + 1) iy (iy + 1))) (w * h) (layer (now (pix2tri .entry)) (now (pix2depth .entry))) ⌝ }
+        ≡ visited (depthCells (screenOf s) number w) (rowsDown w ix y0 y1) (layer (now (pix2tri .entry)) (now (pix2depth .entry))) ⌝ }
 {
-    let qx = pixels::centre(ix);
-    let qy = pixels::centre(iy);
-    let z = lanes::depth_at(s, qx, qy);
-    cells::put(pix2tri, pix2depth, iy * w + ix, z, number);
-}
-
-// Columns x0 to x1 of row iy, one by one.
-fn draw_pixels(
-    pix2tri: &mut [u32],
-    pix2depth: &mut [f32],
-    w: usize,
-    h: usize,
-    s: Screen,
-    number: u32,
-    x0: usize,
-    x1: usize,
-    iy: usize,
-)
-    requires { ⌜ Sized 1 w h ⌝ }
-    requires { ⌜ Spans (layer (now pix2tri) (now pix2depth)) (w * h) ⌝ }
-    requires { ⌜ Within x0 x1 w ⌝ }
-    requires { ⌜ iy < h ⌝ }
-    ensures { λ _. ⌜ layer (now (pix2tri .exit)) (now (pix2depth .exit))
-        ≡ painted (boxCells (screenOf s) number w (box x0 x1 iy (iy + 1))) (w * h) (layer (now (pix2tri .entry)) (now (pix2depth .entry))) ⌝ }
-{
-    let mut ix = x0;
-    while ix < x1 {
-        draw_pixel(pix2tri, pix2depth, w, h, s, number, ix, iy);
-        ix += 1;
+    let mut iy = y0;
+    while iy < y1 {
+        blocks::visit(pix2tri, pix2depth, w, h, s, number, ix, iy);
+        iy += 1;
     }
 }
 
-// The columns ix to ix + 4 of row iy, as far as they are before x1. qx is the centre of the first.
-fn draw_four(
+// Four rows can be visited at once from each row before this one: some are before y1, and all are in the image. One or two rows are left to be visited one
+// by one, which is faster.
+fn blocks_end(y0: usize, y1: usize, h: usize) -> usize
+    requires { ⌜ Within y0 y1 h ⌝ }
+    requires { ⌜ h ≤ 4096 ⌝ }
+    ensures { λ r. ⌜ ((i : ℕ) → i < r → (i < y1) × (i + 4 ≤ h)) ⌝ }
+{
+    if y1 - y0 <= 2 {
+        return 0;
+    }
+    if y1 + 3 <= h {
+        return y1;
+    }
+    if h < 3 {
+        return 0;
+    }
+    h - 3
+}
+
+// Rows of column ix from y0 on, four at a time. Answers the first that is left; those before y1 are visited as far as that.
+// The centre is carried along: worked out anew from iy, the loop would be turned into one over four blocks at once, which is slower.
+fn visit_blocks(
     pix2tri: &mut [u32],
     pix2depth: &mut [f32],
     w: usize,
@@ -72,111 +69,65 @@ fn draw_four(
     s: Screen,
     number: u32,
     ix: usize,
-    x1: usize,
-    iy: usize,
-    qx: f32,
-)
-    requires { ⌜ Sized 1 w h ⌝ }
-    requires { ⌜ Spans (layer (now pix2tri) (now pix2depth)) (w * h) ⌝ }
-    requires { ⌜ (ix + 4 ≤ w) × (ix < x1) ⌝ }
-    requires { ⌜ (x1 ≤ w) × (iy < h) ⌝ }
-    requires { ⌜ qx ≡ centre ix ⌝ }
-    ensures { λ _. ⌜ layer (now (pix2tri .exit)) (now (pix2depth .exit))
-        ≡ painted (boxCells (screenOf s) number w (box ix (upTo x1 (ix + 4)) iy (iy + 1))) (w * h) (layer (now (pix2tri .entry)) (now (pix2depth .entry))) ⌝ }
-{
-    let end = pixels::centre(x1 - 1);
-    let qy = pixels::centre(iy);
-    let q1 = qx + 1.0;
-    let q2 = qx + 2.0;
-    let q3 = qx + 3.0;
-    let z0 = lanes::lane(s, qx, qy);
-    let z1 = lanes::lane(s, q1, qy);
-    let z2 = lanes::lane(s, q2, qy);
-    let z3 = lanes::lane(s, q3, qy);
-    blocks::offer_four(
-        pix2tri,
-        pix2depth,
-        iy * w + ix,
-        number,
-        lanes::up_to(end, qx, z0),
-        lanes::up_to(end, q1, z1),
-        lanes::up_to(end, q2, z2),
-        lanes::up_to(end, q3, z3),
-    );
-}
-
-// Four columns can be drawn at once from each column before this one: some are before x1, and all are in the image.
-fn blocks_end(x1: usize, w: usize) -> usize
-    requires { ⌜ x1 ≤ w ⌝ }
-    requires { ⌜ w ≤ 4096 ⌝ }
-    ensures { λ r. ⌜ ((i : ℕ) → i < r → (i < x1) × (i + 4 ≤ w)) ⌝ }
-{
-    if x1 + 3 <= w {
-        return x1;
-    }
-    if w < 3 {
-        return 0;
-    }
-    w - 3
-}
-
-// Columns of row iy from x0 on, four at a time. Answers the first that is left; those before x1 are drawn as far as that.
-// The centre is carried along: worked out anew from ix, the loop would be turned into one over four blocks at once, which is slower.
-fn draw_blocks(
-    pix2tri: &mut [u32],
-    pix2depth: &mut [f32],
-    w: usize,
-    h: usize,
-    s: Screen,
-    number: u32,
-    x0: usize,
-    x1: usize,
-    iy: usize,
+    y0: usize,
+    y1: usize,
 ) -> usize
     requires { ⌜ Sized 1 w h ⌝ }
     requires { ⌜ Spans (layer (now pix2tri) (now pix2depth)) (w * h) ⌝ }
-    requires { ⌜ Within x0 x1 w ⌝ }
-    requires { ⌜ iy < h ⌝ }
-    ensures { λ r. ⌜ (x0 ≤ r) × (layer (now (pix2tri .exit)) (now (pix2depth .exit))
-        ≡ painted (boxCells (screenOf s) number w (box x0 (upTo x1 r) iy (iy + 1))) (w * h) (layer (now (pix2tri .entry)) (now (pix2depth .entry)))) ⌝ }
+    requires { ⌜ ix < w ⌝ }
+    requires { ⌜ Within y0 y1 h ⌝ }
+    ensures { λ r. ⌜ (y0 ≤ r) × (layer (now (pix2tri .exit)) (now (pix2depth .exit))
+        ≡ visited (depthCells (screenOf s) number w) (rowsDown w ix y0 (upTo y1 r)) (layer (now (pix2tri .entry)) (now (pix2depth .entry)))) ⌝ }
 {
-    let end = blocks_end(x1, w);
-    let mut ix = x0;
-    let mut qx = pixels::centre(x0);
-    while ix < end {
-        draw_four(pix2tri, pix2depth, w, h, s, number, ix, x1, iy, qx);
-        ix += 4;
-        qx += 4.0;
+    let end = blocks_end(y0, y1, h);
+    let qx = pixels::centre(ix);
+    let mut iy = y0;
+    let mut qy = pixels::centre(y0);
+    while iy < end {
+        blocks::visit_four(pix2tri, pix2depth, w, h, s, number, ix, iy, y1, qx, qy);
+        iy += 4;
+        qy += 4.0;
     }
-    ix
+    iy
 }
 
-// Columns x0 to x1 of row iy: four at a time, and the last ones before the image's edge one by one.
-fn draw_row(
+// Rows y0 to y1 of column ix: four at a time, and the last ones before the image's edge one by one.
+fn visit_column(
     pix2tri: &mut [u32],
     pix2depth: &mut [f32],
     w: usize,
     h: usize,
     s: Screen,
     number: u32,
-    x0: usize,
-    x1: usize,
-    iy: usize,
+    ix: usize,
+    y0: usize,
+    y1: usize,
 )
     requires { ⌜ Sized 1 w h ⌝ }
     requires { ⌜ Spans (layer (now pix2tri) (now pix2depth)) (w * h) ⌝ }
-    requires { ⌜ Within x0 x1 w ⌝ }
-    requires { ⌜ iy < h ⌝ }
+    requires { ⌜ ix < w ⌝ }
+    requires { ⌜ Within y0 y1 h ⌝ }
     ensures { λ _. ⌜ layer (now (pix2tri .exit)) (now (pix2depth .exit))
-        ≡ painted (boxCells (screenOf s) number w (box x0 x1 iy (iy + 1))) (w * h) (layer (now (pix2tri .entry)) (now (pix2depth .entry))) ⌝ }
+        ≡ visited (depthCells (screenOf s) number w) (rowsDown w ix y0 y1) (layer (now (pix2tri .entry)) (now (pix2depth .entry))) ⌝ }
 {
-    let left = draw_blocks(pix2tri, pix2depth, w, h, s, number, x0, x1, iy);
-    if left < x1 {
-        draw_pixels(pix2tri, pix2depth, w, h, s, number, left, x1, iy);
+    let left = visit_blocks(pix2tri, pix2depth, w, h, s, number, ix, y0, y1);
+    if left < y1 {
+        visit_rows(pix2tri, pix2depth, w, h, s, number, ix, left, y1);
     }
 }
 
-pub fn draw_box(
+// So many of the rows of a column may be visited when so many visits are left.
+fn allowed(left: usize, rows: usize) -> usize
+    ensures { λ r. ⌜ Allowed left rows r ⌝ }
+{
+    if left < rows {
+        return left;
+    }
+    rows
+}
+
+// The pixels of a box, but no more than n visits.
+pub fn visit_box(
     pix2tri: &mut [u32],
     pix2depth: &mut [f32],
     w: usize,
@@ -184,17 +135,22 @@ pub fn draw_box(
     s: Screen,
     number: u32,
     b: Box,
+    n: usize,
 )
     requires { ⌜ Sized 1 w h ⌝ }
     requires { ⌜ Spans (layer (now pix2tri) (now pix2depth)) (w * h) ⌝ }
     requires { ⌜ Within (b .x0) (b .x1) w ⌝ }
     requires { ⌜ Within (b .y0) (b .y1) h ⌝ }
     ensures { λ _. ⌜ layer (now (pix2tri .exit)) (now (pix2depth .exit))
-        ≡ painted (boxCells (screenOf s) number w b) (w * h) (layer (now (pix2tri .entry)) (now (pix2depth .entry))) ⌝ }
+        ≡ visited (depthCells (screenOf s) number w) (take n (boxVisits w b)) (layer (now (pix2tri .entry)) (now (pix2depth .entry))) ⌝ }
 {
-    let mut iy = b.y0;
-    while iy < b.y1 {
-        draw_row(pix2tri, pix2depth, w, h, s, number, b.x0, b.x1, iy);
-        iy += 1;
+    let rows = b.y1 - b.y0;
+    let mut left = n;
+    let mut ix = b.x0;
+    while ix < b.x1 {
+        let some = allowed(left, rows);
+        visit_column(pix2tri, pix2depth, w, h, s, number, ix, b.y0, b.y0 + some);
+        left -= some;
+        ix += 1;
     }
 }

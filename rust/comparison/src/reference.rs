@@ -1,26 +1,29 @@
 //! The listed calls, over flat slices; the drawing with a first number.
 use crate::pass::{Pass, Velocities};
 use crate::scene::{Scene, EMPTY};
-use std::cell::Cell;
+use std::cell::{Cell, RefCell};
 use std::panic::{catch_unwind, AssertUnwindSafe};
 use std::sync::Once;
 
+/// The corners of a piece in normalised coordinates.
+pub type Piece = [[f32; 3]; 3];
+
 thread_local! {
     static QUIET: Cell<bool> = const { Cell::new(false) };
-    /// The pieces and the scanned pixels that the counting file has met.
-    static COUNTED: Cell<(u64, u64)> = const { Cell::new((0, 0)) };
+    /// The pieces that the counting file has met.
+    static PIECES: RefCell<Vec<Piece>> = const { RefCell::new(Vec::new()) };
+    /// The pixels that its scans have offered.
+    static PIXELS: Cell<u64> = const { Cell::new(0) };
 }
 
 /// The counting file draws a piece.
-pub fn piece() {
-    let (pieces, pixels) = COUNTED.get();
-    COUNTED.set((pieces + 1, pixels));
+pub fn piece(ndc: Piece) {
+    PIECES.with_borrow_mut(|pieces| pieces.push(ndc));
 }
 
 /// Its scan has offered a pixel of the image.
 pub fn pixel() {
-    let (pieces, pixels) = COUNTED.get();
-    COUNTED.set((pieces, pixels + 1));
+    PIXELS.set(PIXELS.get() + 1);
 }
 
 /// What a listed call leaves, or nothing where it panics, without a word.
@@ -206,10 +209,11 @@ pub fn drawn(scene: &Scene) -> (Vec<u32>, Vec<f32>) {
     (numbers, depths)
 }
 
-/// The pieces and the scanned pixels of the listed Rust while it draws an accepted mesh.
-pub fn load(scene: &Scene) -> (u64, u64) {
+/// The pieces of the listed Rust while it draws an accepted mesh, and how many pixels they are offered.
+fn counted(scene: &Scene) -> (Vec<Piece>, u64) {
     let pixels = scene.img_w * scene.img_h;
-    COUNTED.set((0, 0));
+    PIECES.take();
+    PIXELS.set(0);
     del_geo_core::tri2_scanline::of_image(scene.img_w, scene.img_h);
     crate::pix2tri_counting::pix2tri_by_rasterization::<u32>(
         &mut vec![EMPTY; pixels],
@@ -219,7 +223,32 @@ pub fn load(scene: &Scene) -> (u64, u64) {
         (scene.img_w, scene.img_h),
         &scene.transform_world2ndc,
     );
-    COUNTED.get()
+    (PIECES.take(), PIXELS.get())
+}
+
+/// The number of the pieces and of the scanned pixels.
+pub fn load(scene: &Scene) -> (u64, u64) {
+    let (pieces, pixels) = counted(scene);
+    (pieces.len() as u64, pixels)
+}
+
+/// The pieces, in the order in which they are drawn.
+pub fn pieces(scene: &Scene) -> Vec<Piece> {
+    counted(scene).0
+}
+
+/// The listed scan of one piece on a layer; how many pixels of the image it offers.
+pub fn scan(
+    pix2tri: &mut [u32],
+    pix2depth: &mut [f32],
+    img_shape: (usize, usize),
+    number: u32,
+    ndc: Piece,
+) -> u64 {
+    PIXELS.set(0);
+    del_geo_core::tri2_scanline::of_image(img_shape.0, img_shape.1);
+    crate::pix2tri_counting::rasterize_projected_tri(pix2tri, pix2depth, img_shape, number, ndc);
+    PIXELS.get()
 }
 
 /// Which way a face goes through the listed drawing.

@@ -1,4 +1,4 @@
--- `lanes::lane`: the same tests after the work as `depth_at` has before it.
+-- `lanes::lane`: the tests that a visit asks on the way, asked after the work.
 use borrow.Author.Needs.{needs}
 use Rattle.geometry.specs.Arith.{floats}
 use Rattle.geometry.specs.Vector.{vec2}

@@ -10,7 +10,7 @@ returns : tie.Need-returns
 returns c =
     let drew = c .before .before .before .before in
     let made = drew .before .before .before in
-    pieces-drawn _ _ _ (layer _ _) (one-done _ _ _ (layer _ _) (layer _ _) _ (drew .rasterize-projected-tri .ensures))
+    pieces-drawn _ _ _ (layer _ _) (one-done _ _ _ (layer _ _) (layer _ _) _ (drew .draw-piece .ensures))
     (made .whole .ensures ∙ made .before .before .stays-whole .ensures (made .before .if1 .taken))
 
 returns-2 : tie.Need-returns-2

@@ -13,20 +13,20 @@ returns-2 : tie.Need-returns-2
 returns-2 c =
     let a = c .before .before .before .before .before .before .before .before .before .before .before .before .before .args in
     rw (c .before .before .before .before .before .before .before .before .before .ps .given .1, ← (c .before .before .before .before .before .before .before .whole .ensures))
-    (one-done (a .w) (a .h) (a .number) (layer (a .pix2tri .now) (a .pix2depth .now)) _ _ (c .before .before .before .before .rasterize-projected-tri .ensures))
+    (one-done (a .w) (a .h) (a .number) (layer (a .pix2tri .now) (a .pix2depth .now)) _ _ (c .before .before .before .before .draw-piece .ensures))
 
 returns-3 : tie.Need-returns-3
 returns-3 c =
     let a = c .before .before .before .before .before .before .before .before .before .before .before .before .before .args in
     rw (c .before .before .before .before .before .before .before .before .before .ps2 .given .1, ← (c .before .before .before .before .before .before .before .one-piece .ensures))
-    (one-done (a .w) (a .h) (a .number) (layer (a .pix2tri .now) (a .pix2depth .now)) _ _ (c .before .before .before .before .rasterize-projected-tri2 .ensures))
+    (one-done (a .w) (a .h) (a .number) (layer (a .pix2tri .now) (a .pix2depth .now)) _ _ (c .before .before .before .before .draw-piece2 .ensures))
 
 returns-4 : tie.Need-returns-4
 unfolding twoPieces
 returns-4 c =
     let a = c .before .before .before .before .before .before .before .before .before .before .before .before .before .before .before .before .before .before .before .before .before .args in
     rw (c .before .before .before .before .before .before .before .before .before .before .before .before .before .before .before .before .before .ps3 .given .1, ← (c .before .before .before .before .before .before .before .before .before .before .before .before .before .before .before .first-piece .ensures), ← (c .before .before .before .before .before .before .before .second-piece .ensures))
-    (two-done (a .w) (a .h) (a .number) (layer (a .pix2tri .now) (a .pix2depth .now)) _ _ _ _ (c .before .before .before .before .before .before .before .before .before .before .before .before .rasterize-projected-tri3 .ensures) (c .before .before .before .before .rasterize-projected-tri4 .ensures))
+    (two-done (a .w) (a .h) (a .number) (layer (a .pix2tri .now) (a .pix2depth .now)) _ _ _ _ (c .before .before .before .before .before .before .before .before .before .before .before .before .draw-piece3 .ensures) (c .before .before .before .before .draw-piece4 .ensures))
 
 pub draw-pieces-spec : {M : Type 1} → statement M
 draw-pieces-spec =

@@ -1,20 +1,18 @@
--- `raster::rasterize_projected_tri`: off the image, or the box of the piece on the screen.
+-- `raster::rasterize_projected_tri`: off the image, or the visits of its box on the screen.
 use borrow.Author.Needs.{needs}
 use mathlib.Core.Path.{ap, _∙_}
 use borrow.Author.Tests.{not-true, not-false}
 use Rattle.cells.specs.Layer.{layer}
-use Rattle.rules.specs.Scan.{screened, finiteInPixels}
+use Rattle.rules.specs.Scan.{finiteInPixels}
 use Rattle.pieces.specs.Answer.{pieceOf}
-use Rattle.boxes.specs.Answer.{screenOf}
-use Rattle.raster.proofs.Painting.{untouched, box-done}
+use Rattle.raster.proofs.Painting.{untouched, box-visited}
 use Rattle.raster.proofs.rasterize_projected_tri.Statement.{statement}
 use Rattle.raster.proofs.rasterize_projected_tri.Tie as tie
 
 returns : tie.Need-returns
 returns c =
-    let f = c .before .before .before .before in
-    let a = f .args in
-    untouched (screened (a .w) (a .h) (pieceOf (a .ndc))) (a .number) (a .w) (a .h) (layer (a .pix2tri .now) (a .pix2depth .now)) (f .pre .0) (f .pre .1)
+    let a = c .before .before .before .before .args in
+    untouched (a .n) (a .w) (a .h) (a .number) (pieceOf (a .ndc)) (layer (a .pix2tri .now) (a .pix2depth .now))
     (c .before .meets-image .ensures .misses (not-true (c .before .meets-image .result) (c .if1 .taken)))
 
 box-of-requires : tie.Need-box-of-requires
@@ -23,23 +21,20 @@ box-of-requires c κs =
     let size = c .before .before .before .before .before .pre .0 in
     (size .w-most, (size .h-most, ap finiteInPixels (c .screened .ensures) ∙ met .ensures .all-finite (not-false (met .result) (c .before .if1 .left))))
 
-draw-box-requires : tie.Need-draw-box-requires
-draw-box-requires c κs =
+visit-box-requires : tie.Need-visit-box-requires
+visit-box-requires c κs =
     let b = c .before .before .box-of .ensures in
     let f = c .before .before .before .before .before .before .before .before in
     (f .pre .0, (f .pre .1, (b .columns, b .rows)))
 
 returns-2 : tie.Need-returns-2
 returns-2 c =
-    let s = c .before .before .before .before .before .before .before in
-    let f = s .before .before .before .before .before .before in
-    let a = f .args in
-    rw (← (s .before .screened .ensures))
-    (box-done (screenOf (s .before .screened .result)) (a .number) (a .w) (a .h) (layer (a .pix2tri .now) (a .pix2depth .now)) (f .pre .0) (s .box-of .ensures)
-    (c .before .before .before .before .draw-box .ensures))
+    let a = c .before .before .before .before .before .before .before .before .before .before .before .before .before .args in
+    box-visited (a .n) (a .w) (a .h) (a .number) (pieceOf (a .ndc)) (layer (a .pix2tri .now) (a .pix2depth .now)) (c .before .before .before .before .before .before .before .before .screened .ensures) (c .before .before .before .before .before .before .before .box-of .ensures)
+    (c .before .before .before .before .visit-box .ensures)
 
 pub rasterize-projected-tri-spec : {M : Type 1} → statement M
 rasterize-projected-tri-spec =
     tie.close
     (tie.spec
-    (λ c κs. search needs) returns (λ c κs. search needs) box-of-requires draw-box-requires (λ c. search needs) (λ c. search needs) returns-2)
+    (λ c κs. search needs) returns (λ c κs. search needs) box-of-requires visit-box-requires (λ c. search needs) (λ c. search needs) returns-2)

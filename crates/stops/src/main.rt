@@ -1,0 +1,109 @@
+// Runs the scan of one piece stopped after every number of visits (02, Point 7), on images of five columns and nine rows. A case is a line of twelve words:
+// the piece's number, the depth that every pixel holds before, its three corners in normalised coordinates, and how many stops to run: after 0 visits, 1, ..
+// Each stop begins with the layer as it was before, and writes a line: the number of visits; then of each pixel whose cell is another now, in rising order,
+// the pixel, its map entry and its depth. The package rust/comparison wrote stdin and stdout (examples/stops.rs, whose comment says of which pieces).
+
+const STDOUT: i32 = 1;
+
+const SPACE: u8 = 32;
+
+const WIDTH: usize = 5;
+
+const HEIGHT: usize = 9;
+
+const EMPTY: u32 = 0xffff_ffff;
+
+enum Corner {
+    At(f32, f32, f32),
+    End,
+}
+
+fn read_corner() -> Corner {
+    let words::Word::Bits(x) = words::read() else {
+        return Corner::End;
+    };
+    let words::Word::Bits(y) = words::read() else {
+        return Corner::End;
+    };
+    let words::Word::Bits(z) = words::read() else {
+        return Corner::End;
+    };
+    Corner::At(words::f32_of(x), words::f32_of(y), words::f32_of(z))
+}
+
+// Writes a pixel, unless its cell is the one from before.
+fn write_pixel(p: u32, number: u32, depth: f32, before: f32) {
+    let bits = words::of_f32(depth);
+    if number == EMPTY && bits == words::of_f32(before) {
+        return;
+    }
+    words::write(p, SPACE);
+    words::write(number, SPACE);
+    words::write(bits, SPACE);
+}
+
+fn write_pixels(pix2tri: &[u32; 45], pix2depth: &[f32; 45], before: f32) {
+    let mut p: usize = 0;
+    while p < 45 {
+        write_pixel(p as u32, pix2tri[p], pix2depth[p], before);
+        p += 1;
+    }
+}
+
+// The scan of a piece on a layer of that depth, stopped after n visits.
+fn stop(number: u32, before: f32, ndc: [[f32; 3]; 3], n: u32) {
+    let mut pix2tri = [EMPTY; 45];
+    let mut pix2depth = [before; 45];
+    raster::rasterize_projected_tri(
+        &mut pix2tri,
+        &mut pix2depth,
+        WIDTH,
+        HEIGHT,
+        number,
+        ndc,
+        n as usize,
+    );
+    words::write(n, SPACE);
+    write_pixels(&pix2tri, &pix2depth, before);
+    io::write_all(STDOUT, b"\n");
+}
+
+fn run_stops(number: u32, before: f32, ndc: [[f32; 3]; 3], count: u32) {
+    let mut n: u32 = 0;
+    while n < count {
+        stop(number, before, ndc, n);
+        n += 1;
+    }
+}
+
+// Runs the next case, and answers whether there was one.
+fn run_one() -> bool {
+    let words::Word::Bits(number) = words::read() else {
+        return false;
+    };
+    let words::Word::Bits(depth) = words::read() else {
+        return false;
+    };
+    let Corner::At(x0, y0, z0) = read_corner() else {
+        return false;
+    };
+    let Corner::At(x1, y1, z1) = read_corner() else {
+        return false;
+    };
+    let Corner::At(x2, y2, z2) = read_corner() else {
+        return false;
+    };
+    let words::Word::Bits(count) = words::read() else {
+        return false;
+    };
+    let ndc = [[x0, y0, z0], [x1, y1, z1], [x2, y2, z2]];
+    run_stops(number, words::f32_of(depth), ndc, count);
+    true
+}
+
+fn main() {
+    let mut turns: u64 = 1_000_000;
+    while turns > 0 && run_one() {
+        turns -= 1;
+    }
+}
