@@ -69,6 +69,10 @@ module _ (os : ℕ → List Cell) (w n ix a b : ℕ) (l : Layer) (order : a ≤ 
             ∙ ap (λ (ps : List ℕ). visited os ps l) (rows-append w ix a (upTo b i) (upTo b j) (up-to-least b a i order (g .from)) (up-to-rises b i j h));
       }
 
+  -- what rows up to i have left
+  pub going-of : {cur : Layer} {i : ℕ} → Spans l n → a ≤ i → cur ≡ visited os (rowsDown w ix a (upTo b i)) l → Going os w n ix a b l cur i
+  going-of {cur} {i} s h e = record { from = h; spans = rw e (spans-visited os (rowsDown w ix a (upTo b i)) l n s); is = e }
+
   -- one row more, before the end
   pub going-on : (cur new : Layer) (i : ℕ) → i < b → Going os w n ix a b l cur i → new ≡ visited os ((i * w + ix) ∷ []) cur → Going os w n ix a b l new (i + 1)
   going-on cur new i h g e =
@@ -78,6 +82,10 @@ module _ (os : ℕ → List Cell) (w n ix a b : ℕ) (l : Layer) (order : a ≤ 
   -- rows up to j, some of them past the end
   pub going-by : (cur new : Layer) (i j : ℕ) → i ≤ b → i ≤ j → Going os w n ix a b l cur i → new ≡ visited os (rowsDown w ix i (upTo b j)) cur → Going os w n ix a b l new j
   going-by cur new i j h k g e = going-next cur new i j k g (e ∙ sym (rw (up-to-is b i h)))
+
+  -- the rest, up to the end
+  pub going-rest : (cur new : Layer) (i : ℕ) → i ≤ b → Going os w n ix a b l cur i → new ≡ visited os (rowsDown w ix i b) cur → Going os w n ix a b l new b
+  going-rest cur new i h g e = going-by cur new i b h h g (e ∙ sym (rw (up-to-end b b (omega arith))))
 
   pub going-last : (cur : Layer) (i : ℕ) → b ≤ i → Going os w n ix a b l cur i → cur ≡ visited os (rowsDown w ix a b) l
   going-last cur i h g = rw (up-to-end b i h) at (g .is)

@@ -52,10 +52,6 @@ pub first-at : (lower : Bool) (x : Float) (n r : ℕ) → n ≤ 4096 → Settled
 first-at lower x n r l s e =
     record { within = s .within; before = s .before; after = λ i h k. reached-on lower x r i h (omega arith) e }
 
--- none of n
-pub first-none : (lower : Bool) (x : Float) (n : ℕ) → Settled lower x n n → FirstReached lower x n n
-first-none lower x n s = record { within = s .within; before = s .before; after = λ i h k. absurd (omega arith) }
-
 -- one more has not reached x
 pub settled-more : (lower : Bool) (x : Float) (n r : ℕ) → r < n → n ≤ 4096 → Settled lower x n r → reached lower x r ≡ false → Settled lower x n (r + 1)
 settled-more lower x n r h l s e =

@@ -1,4 +1,4 @@
--- Columns of a box: one whole, and one after the other as long as visits are left.
+-- Columns of a box, one after the other as long as visits are left.
 use Prim.Native.Nat.{ℕ, zero, suc, _+_, _-_, _≤_, _<_}
 use mathlib.Core.Path.{_≡_, refl, sym, ap, _∙_}
 use mathlib.Core.List.{List, [], _++_, flatMap}
@@ -13,29 +13,9 @@ use Rattle.rules.specs.Visits.{down, visited}
 use Rattle.rules.specs.Laws.Visited.{visited-append, spans-visited}
 use Rattle.boxes.specs.declared.Box.{Box}
 use Rattle.boxes.specs.Box.{box}
-use Rattle.blocks.specs.Rows.{rowsDown, upTo}
-use Rattle.blocks.proofs.Down.{rows-append, take-column}
-use Rattle.blocks.proofs.Going.{up-to-is, up-to-end}
+use Rattle.blocks.specs.Rows.{rowsDown}
+use Rattle.blocks.proofs.Down.{take-column}
 use Rattle.scan.specs.Columns.{boxVisits, Allowed}
-
--- ---- a column
-
-pub spans-is : (os : ℕ → List Cell) (ps : List ℕ) {l cur : Layer} {n : ℕ} → Spans l n → cur ≡ visited os ps l → Spans cur n
-spans-is os ps {l} {cur} {n} s e = rw e (spans-visited os ps l n s)
-
-module _ (os : ℕ → List Cell) (w ix a b i : ℕ) (l : Layer) where
-  -- blocks as far as row i, and then the rest; or blocks alone
-  pub rest-done : {mid new : Layer} → a ≤ i → i ≤ b → mid ≡ visited os (rowsDown w ix a (upTo b i)) l → new ≡ visited os (rowsDown w ix i b) mid → new ≡ visited os (rowsDown w ix a b) l
-  rest-done h k e f =
-      f
-      ∙ ap (visited os (rowsDown w ix i b)) (e ∙ rw (up-to-is b i k))
-      ∙ sym (visited-append os (rowsDown w ix a i) (rowsDown w ix i b) l)
-      ∙ ap (λ (ps : List ℕ). visited os ps l) (rows-append w ix a i b h k)
-
-  pub blocks-done : {new : Layer} → b ≤ i → new ≡ visited os (rowsDown w ix a (upTo b i)) l → new ≡ visited os (rowsDown w ix a b) l
-  blocks-done h e = rw (up-to-end b i h) at e
-
--- ---- the columns of a box
 
 module _ (os : ℕ → List Cell) (w size : ℕ) (b : Box) (n : ℕ) (l : Layer) where
   -- those from column ix on
@@ -46,12 +26,11 @@ module _ (os : ℕ → List Cell) (w size : ℕ) (b : Box) (n : ℕ) (l : Layer)
   pub record Stopping (cur : Layer) (ix left : ℕ) : Type 0 where
     pub to : ix ≤ b .x1
     pub spans : Spans cur size
-    pub fewer : left ≤ n
     pub rest : visited os (take left (from ix)) cur ≡ visited os (take n (boxVisits w b)) l
 
   pub stopping-first : Spans l size → b .x0 ≤ b .x1 → Stopping l (b .x0) n
   unfolding boxVisits
-  stopping-first s h = record { to = h; spans = s; fewer = omega arith; rest = refl }
+  stopping-first s h = record { to = h; spans = s; rest = refl }
 
   -- the column, and those after it
   next-column : (ix : ℕ) → ix < b .x1 → from ix ≡ rowsDown w ix (b .y0) (b .y1) ++ from (ix + 1)
@@ -70,7 +49,6 @@ module _ (os : ℕ → List Cell) (w size : ℕ) (b : Box) (n : ℕ) (l : Layer)
       record {
         to = omega arith;
         spans = rw e (spans-visited os (rowsDown w ix (b .y0) (b .y0 + some)) cur size (t .spans));
-        fewer = omega (arith, t .fewer);
         rest =
             ap (visited os (take (left - some) (from (ix + 1)))) e
             ∙ sym (visited-append os (rowsDown w ix (b .y0) (b .y0 + some)) (take (left - some) (from (ix + 1))) cur)

@@ -4,6 +4,7 @@ pub mod Values
 pub mod Edges
 pub mod Floats
 pub mod Load
+pub mod Visits
 use mathlib.Core.Path.{_≡_, refl}
 use mathlib.Core.List.{[], _∷_}
 use lib.Ieee.{nan, binary32, ofBits}

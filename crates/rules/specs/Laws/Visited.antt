@@ -11,8 +11,9 @@ use borrow.Author.Tests.{lt-ltb, ltb-true, eqb-true, eqb-false, eq-eqb}
 use lib.Dec.{eqb, ltb}
 use lib.ListN.{length, getD, take, drop, take-append-drop}
 use lib.Seq.{take-all, take-suc}
-use Rattle.lists.specs.Lists.{count}
+use Rattle.lists.specs.Lists.{span, filter, count}
 use Rattle.lists.specs.Laws.Sums.{count-none, count-more, count-both}
+use Rattle.lists.specs.Laws.Filters.{count-number, count-filter}
 use Rattle.lists.specs.Laws.Tests.{both}
 use Rattle.offers.specs.Offer.{offered}
 use Rattle.offers.specs.Offers.{numbered}
@@ -28,7 +29,7 @@ use Rattle.rules.specs.Draw.{painted}
 use Rattle.rules.specs.Load.{piecePixels}
 use Rattle.rules.specs.Visits.{visits, visited, pieceCells, stoppedAfter}
 use Rattle.rules.specs.Laws.Paint.{at-painted, spans-painted}
-use Rattle.rules.specs.Laws.Visits.{visits-once, visits-many}
+use Rattle.rules.specs.Laws.Visits.{cond-both, visits-once, visits-many}
 
 -- `cs` is brought to a cell n times
 unfoldable pub again : ℕ → List Cell → Cell → Cell
@@ -119,6 +120,15 @@ stopped-all n w h t k l s m =
 pub order-free : (w h : ℕ) (t : Piece) (k : ℕ) (l : Layer) → Spans l (w * h) → (ps : List ℕ) → ((p : ℕ) → count (eqb p) ps ≡ cond (ltb p (w * h) && scans (screened w h t) (p % w) (p / w)) 1 0)
     → visited (pieceCells w h t k) ps l ≡ visited (pieceCells w h t k) (visits w h (screened w h t)) l
 order-free w h t k l s ps e = any-order (pieceCells w h t k) ps (visits w h (screened w h t)) l (w * h) s (λ p. e p ∙ sym (visits-once w h (screened w h t) p))
+
+-- row by row among them
+pub rows-leave-the-same : (w h : ℕ) (t : Piece) (k : ℕ) (l : Layer) → Spans l (w * h)
+    → visited (pieceCells w h t k) (filter (λ p. scans (screened w h t) (p % w) (p / w)) (span 0 (w * h))) l ≡ visited (pieceCells w h t k) (visits w h (screened w h t)) l
+rows-leave-the-same w h t k l s =
+    order-free w h t k l s (filter held (span 0 (w * h))) (λ p. count-filter held p (span 0 (w * h)) ∙ ap (λ (n : ℕ). cond (held p) n 0) (count-number p (w * h)) ∙ cond-both (ltb p (w * h)) (held p))
+  where
+    held : ℕ → Bool
+    held p = scans (screened w h t) (p % w) (p / w)
 
 -- stopped or not: only what is brought to the pixels that the scan holds counts
 pub stopped-same : (n w h : ℕ) (t : Piece) (k : ℕ) (l : Layer) (os : ℕ → List Cell) → ((p : ℕ) → p < w * h → scans (screened w h t) (p % w) (p / w) ≡ true → os p ≡ pieceCells w h t k p)

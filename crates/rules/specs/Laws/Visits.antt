@@ -52,18 +52,18 @@ columnwise-once w h p = columnwise-count (eqb p) w h ∙ count-number p (w * h)
 
 -- ---- the visits
 
+pub cond-both : (a b : Bool) → _≡_ {A = ℕ} (cond b (cond a 1 0) 0) (cond (a && b) 1 0)
+cond-both true b = refl
+cond-both false true = refl
+cond-both false false = refl
+
 -- the pixels of the image that the scan holds, each once
 pub visits-once : (w h : ℕ) (s : Triangle (Vec3 Float)) (p : ℕ) → count (eqb p) (visits w h s) ≡ cond (ltb p (w * h) && scans s (p % w) (p / w)) 1 0
 unfolding visits
 visits-once w h s p =
     count-filter (λ q. scans s (q % w) (q / w)) p (columnwise w h)
     ∙ ap (λ (n : ℕ). cond (scans s (p % w) (p / w)) n 0) (columnwise-once w h p)
-    ∙ both (ltb p (w * h)) (scans s (p % w) (p / w))
-  where
-    both : (a b : Bool) → _≡_ {A = ℕ} (cond b (cond a 1 0) 0) (cond (a && b) 1 0)
-    both true b = refl
-    both false true = refl
-    both false false = refl
+    ∙ cond-both (ltb p (w * h)) (scans s (p % w) (p / w))
 
 -- as many as the load counts pixels of the piece
 pub visits-many : (w h : ℕ) (t : Piece) → length (visits w h (screened w h t)) ≡ piecePixels w h t
