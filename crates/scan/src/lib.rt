@@ -126,7 +126,7 @@ fn allowed(left: usize, rows: usize) -> usize
     rows
 }
 
-// The pixels of a box, but no more than n visits.
+// The pixels of a box, but no more than n visits: where none is left, a column gets no row.
 pub fn visit_box(
     pix2tri: &mut [u32],
     pix2depth: &mut [f32],
