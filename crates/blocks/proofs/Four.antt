@@ -58,32 +58,32 @@ module _ (os : ℕ → List Cell) where
 
 -- ---- a row with its mask, and four
 
-module _ (s : Triangle (Vec3 Float)) (k w h ix y1 : ℕ) (size : Sized 1 w h) (inside : ix < w) (most : y1 ≤ h) (some : 0 < y1) {qx end : Float} (ex : qx ≡ centre ix) (ee : end ≡ centre (y1 - 1)) where
+module _ (counted : Float → Bool) (s : Triangle (Vec3 Float)) (k w h ix y1 : ℕ) (size : Sized 1 w h) (inside : ix < w) (most : y1 ≤ h) (some : 0 < y1) {qx end : Float} (ex : qx ≡ centre ix) (ee : end ≡ centre (y1 - 1)) where
   masked-done :
       (l : Layer) (i : ℕ) {q z m : Float}
       → i < h
       → q ≡ centre i
-      → z ≡ orLowest (depthAt s (vec2 qx q))
+      → z ≡ orLowest (depthAt counted s (vec2 qx q))
       → m ≡ cond (le q end) z lowest
-      → ifGreater (depthCells s k w) (i * w + ix) m l ≡ visited (depthCells s k w) (rowsDown w ix (upTo y1 i) (upTo y1 (i + 1))) l
+      → ifGreater (depthCells counted s k w) (i * w + ix) m l ≡ visited (depthCells counted s k w) (rowsDown w ix (upTo y1 i) (upTo y1 (i + 1))) l
   unfolding ifGreater visited lt
   masked-done l i {q} {z} {m} below eq ez em = go (below-or i y1)
     where
-      here : (i < y1) → (t : Bool) → lt (at l (i * w + ix) .depth) z ≡ t → cond (lt (at l (i * w + ix) .depth) z) (visited (depthCells s k w) ((i * w + ix) ∷ []) l) l ≡ visited (depthCells s k w) ((i * w + ix) ∷ []) l
+      here : (i < y1) → (t : Bool) → lt (at l (i * w + ix) .depth) z ≡ t → cond (lt (at l (i * w + ix) .depth) z) (visited (depthCells counted s k w) ((i * w + ix) ∷ []) l) l ≡ visited (depthCells counted s k w) ((i * w + ix) ∷ []) l
       here b true f = rw f
-      here b false f = rw f (not-greater s k w ix i l inside ex eq ez f)
+      here b false f = rw f (not-greater counted s k w ix i l inside ex eq ez f)
 
-      go : (i < y1) ⊎ (y1 ≤ i) → ifGreater (depthCells s k w) (i * w + ix) m l ≡ visited (depthCells s k w) (rowsDown w ix (upTo y1 i) (upTo y1 (i + 1))) l
+      go : (i < y1) ⊎ (y1 ≤ i) → ifGreater (depthCells counted s k w) (i * w + ix) m l ≡ visited (depthCells counted s k w) (rowsDown w ix (upTo y1 i) (upTo y1 (i + 1))) l
       go (inl b) =
           rw (up-to-is y1 i (omega arith), up-to-is y1 (i + 1) (omega arith), rows-one w ix i)
-          (ap (λ (x : Float). ifGreater (depthCells s k w) (i * w + ix) x l) (em ∙ rw (eq, ee, centre-before i y1 b (omega (arith, size .h-most)))) ∙ here b (lt (at l (i * w + ix) .depth) z) refl)
+          (ap (λ (x : Float). ifGreater (depthCells counted s k w) (i * w + ix) x l) (em ∙ rw (eq, ee, centre-before i y1 b (omega (arith, size .h-most)))) ∙ here b (lt (at l (i * w + ix) .depth) z) refl)
       go (inr b) =
           rw (up-to-end y1 i b, up-to-end y1 (i + 1) (omega arith), rows-none w ix y1 y1 (omega arith))
-          (ap (λ (x : Float). ifGreater (depthCells s k w) (i * w + ix) x l) (em ∙ rw (eq, ee, centre-after i y1 some b (omega (arith, size .h-most)))) ∙ sym (left-out (depthCells s k w) (i * w + ix) lowest l refl))
+          (ap (λ (x : Float). ifGreater (depthCells counted s k w) (i * w + ix) x l) (em ∙ rw (eq, ee, centre-after i y1 some b (omega (arith, size .h-most)))) ∙ sym (left-out (depthCells counted s k w) (i * w + ix) lowest l refl))
 
   -- one row more
   abbrev Rows : ℕ → Layer → Layer → ℕ → Type 0
-  Rows a l cur i = Going (depthCells s k w) w (w * h) ix a y1 l cur i
+  Rows a l cur i = Going (depthCells counted s k w) w (w * h) ix a y1 l cur i
 
   row-next :
       (a : ℕ) (l cur : Layer) (i j : ℕ) {q z m : Float}
@@ -92,11 +92,11 @@ module _ (s : Triangle (Vec3 Float)) (k w h ix y1 : ℕ) (size : Sized 1 w h) (i
       → Rows a l cur i
       → i < h
       → q ≡ centre i
-      → z ≡ orLowest (depthAt s (vec2 qx q))
+      → z ≡ orLowest (depthAt counted s (vec2 qx q))
       → m ≡ cond (le q end) z lowest
-      → Rows a l (ifGreater (depthCells s k w) (i * w + ix) m cur) j
+      → Rows a l (ifGreater (depthCells counted s k w) (i * w + ix) m cur) j
   row-next a l cur i j am ej g below eq ez em =
-      rw ej (going-next (depthCells s k w) w (w * h) ix a y1 l am cur _ i (i + 1) (omega arith) g (masked-done cur i below eq ez em))
+      rw ej (going-next (depthCells counted s k w) w (w * h) ix a y1 l am cur _ i (i + 1) (omega arith) g (masked-done cur i below eq ez em))
 
   -- the four rows of a block
   pub four-done :
@@ -108,20 +108,20 @@ module _ (s : Triangle (Vec3 Float)) (k w h ix y1 : ℕ) (size : Sized 1 w h) (i
       → q1 ≡ centre (iy + 1)
       → q2 ≡ centre (iy + 2)
       → q3 ≡ centre (iy + 3)
-      → z0 ≡ orLowest (depthAt s (vec2 qx q0))
-      → z1 ≡ orLowest (depthAt s (vec2 qx q1))
-      → z2 ≡ orLowest (depthAt s (vec2 qx q2))
-      → z3 ≡ orLowest (depthAt s (vec2 qx q3))
+      → z0 ≡ orLowest (depthAt counted s (vec2 qx q0))
+      → z1 ≡ orLowest (depthAt counted s (vec2 qx q1))
+      → z2 ≡ orLowest (depthAt counted s (vec2 qx q2))
+      → z3 ≡ orLowest (depthAt counted s (vec2 qx q3))
       → m0 ≡ cond (le q0 end) z0 lowest
       → m1 ≡ cond (le q1 end) z1 lowest
       → m2 ≡ cond (le q2 end) z2 lowest
       → m3 ≡ cond (le q3 end) z3 lowest
-      → new ≡ fourIfGreater (depthCells s k w) w ix iy m0 m1 m2 m3 l
-      → new ≡ visited (depthCells s k w) (rowsDown w ix iy (upTo y1 (iy + 4))) l
+      → new ≡ fourIfGreater (depthCells counted s k w) w ix iy m0 m1 m2 m3 l
+      → new ≡ visited (depthCells counted s k w) (rowsDown w ix iy (upTo y1 (iy + 4))) l
   unfolding fourIfGreater
   four-done l iy whole room below e0 e1 e2 e3 f0 f1 f2 f3 g0 g1 g2 g3 e =
       let am : iy ≤ y1 = omega arith in
-      let r0 = going-first (depthCells s k w) w (w * h) ix iy y1 l am whole in
+      let r0 = going-first (depthCells counted s k w) w (w * h) ix iy y1 l am whole in
       let r1 = row-next iy l l iy (iy + 1) am refl r0 (omega arith) e0 f0 g0 in
       let r2 = row-next iy l _ (iy + 1) (iy + 2) am (omega arith) r1 (omega arith) e1 f1 g1 in
       let r3 = row-next iy l _ (iy + 2) (iy + 3) am (omega arith) r2 (omega arith) e2 f2 g2 in

@@ -1,6 +1,6 @@
 -- Rows of one column, as a scan goes down it, and what a visit brings.
 use Prim.Native.Nat.{ℕ, _-_, _/_, _%_}
-use mathlib.Core.Bool.{cond}
+use mathlib.Core.Bool.{Bool, cond}
 use mathlib.Core.List.{List}
 use lib.Dec.{ltb}
 use lib.Ieee.{Float}
@@ -11,8 +11,8 @@ use Rattle.rules.specs.Scan.{centreAt, depthAt}
 use Rattle.rules.specs.Visits.{down}
 
 -- what the piece on the screen, numbered k, brings pixel p, if its scan holds it
-unfoldable pub depthCells : Triangle (Vec3 Float) → ℕ → ℕ → ℕ → List Cell
-depthCells s k w p = numbered k (depthAt s (centreAt (p % w) (p / w)))
+unfoldable pub depthCells : (Float → Bool) → Triangle (Vec3 Float) → ℕ → ℕ → ℕ → List Cell
+depthCells counted s k w p = numbered k (depthAt counted s (centreAt (p % w) (p / w)))
 
 -- rows y0 up to, and without, y1 of column ix
 unfoldable pub rowsDown : ℕ → ℕ → ℕ → ℕ → List ℕ

@@ -3,6 +3,7 @@
 use boxes::Screen;
 use geometry::CornerWeights;
 use geometry::Vec2;
+use lanes::Side;
 ghost use mathlib.Core.Path.{_≡_};
 ghost use mathlib.Core.Bool.{_||_};
 ghost use mathlib.Core.List.{[], _∷_};
@@ -15,16 +16,18 @@ ghost use Rattle.cells.specs.Steps.{Spans};
 ghost use Rattle.pixels.specs.Pixel.{centre};
 ghost use Rattle.rules.specs.Visits.{visited};
 ghost use Rattle.boxes.specs.Answer.{screenOf};
+ghost use Rattle.lanes.specs.Answer.{within};
 ghost use Rattle.blocks.specs.Rows.{depthCells, rowsDown, upTo};
 ghost use Rattle.blocks.specs.Greater.{ifGreater, fourIfGreater};
 
-// The visit of the pixel in column ix and row iy: it is brought the depth that the piece has there, if any.
+// The visit of the pixel in column ix and row iy: it is brought the depth that the piece has there, if any, and if it counts.
 pub fn visit(
     pix2tri: &mut [u32],
     pix2depth: &mut [f32],
     w: usize,
     h: usize,
     s: Screen,
+    side: Side,
     number: u32,
     ix: usize,
     iy: usize,
@@ -33,7 +36,7 @@ pub fn visit(
     requires { ⌜ Spans (layer (now pix2tri) (now pix2depth)) (w * h) ⌝ }
     requires { ⌜ ix < w ⌝ }
     requires { ⌜ iy < h ⌝ }
-    ensures { λ _. ⌜ layer (now (pix2tri .exit)) (now (pix2depth .exit)) ≡ visited (depthCells (screenOf s) number w) ((iy * w + ix) ∷ []) (layer (now (pix2tri .entry)) (now (pix2depth .entry))) ⌝ }
+    ensures { λ _. ⌜ layer (now (pix2tri .exit)) (now (pix2depth .exit)) ≡ visited (depthCells (within side) (screenOf s) number w) ((iy * w + ix) ∷ []) (layer (now (pix2tri .entry)) (now (pix2depth .entry))) ⌝ }
 {
     let q = Vec2 {
         x: pixels::centre(ix),
@@ -42,9 +45,12 @@ pub fn visit(
     let p0 = Vec2 { x: s.x0, y: s.y0 };
     let p1 = Vec2 { x: s.x1, y: s.y1 };
     let p2 = Vec2 { x: s.x2, y: s.y2 };
-    let CornerWeights::Three(b0, b1, b2) = geometry::corner_weights(q, p0, p1, p2) else {
+    let CornerWeights::Three(b0, b1, b2, sum) = geometry::corner_weights(q, p0, p1, p2) else {
         return;
     };
+    if !lanes::counts(side, sum) {
+        return;
+    }
     if lanes::dropped(b0, b1, b2) {
         return;
     }
@@ -59,6 +65,7 @@ fn visit_if_greater(
     w: usize,
     h: usize,
     s: Screen,
+    side: Side,
     number: u32,
     ix: usize,
     iy: usize,
@@ -68,10 +75,10 @@ fn visit_if_greater(
     requires { ⌜ Spans (layer (now pix2tri) (now pix2depth)) (w * h) ⌝ }
     requires { ⌜ ix < w ⌝ }
     requires { ⌜ iy < h ⌝ }
-    ensures { λ _. ⌜ layer (now (pix2tri .exit)) (now (pix2depth .exit)) ≡ ifGreater (depthCells (screenOf s) number w) (iy * w + ix) z (layer (now (pix2tri .entry)) (now (pix2depth .entry))) ⌝ }
+    ensures { λ _. ⌜ layer (now (pix2tri .exit)) (now (pix2depth .exit)) ≡ ifGreater (depthCells (within side) (screenOf s) number w) (iy * w + ix) z (layer (now (pix2tri .entry)) (now (pix2depth .entry))) ⌝ }
 {
     if pix2depth[iy * w + ix] < z {
-        visit(pix2tri, pix2depth, w, h, s, number, ix, iy);
+        visit(pix2tri, pix2depth, w, h, s, side, number, ix, iy);
     }
 }
 
@@ -99,6 +106,7 @@ fn visit_greater(
     w: usize,
     h: usize,
     s: Screen,
+    side: Side,
     number: u32,
     ix: usize,
     iy: usize,
@@ -111,15 +119,15 @@ fn visit_greater(
     requires { ⌜ Spans (layer (now pix2tri) (now pix2depth)) (w * h) ⌝ }
     requires { ⌜ ix < w ⌝ }
     requires { ⌜ iy + 4 ≤ h ⌝ }
-    ensures { λ _. ⌜ layer (now (pix2tri .exit)) (now (pix2depth .exit)) ≡ fourIfGreater (depthCells (screenOf s) number w) w ix iy z0 z1 z2 z3 (layer (now (pix2tri .entry)) (now (pix2depth .entry))) ⌝ }
+    ensures { λ _. ⌜ layer (now (pix2tri .exit)) (now (pix2depth .exit)) ≡ fourIfGreater (depthCells (within side) (screenOf s) number w) w ix iy z0 z1 z2 z3 (layer (now (pix2tri .entry)) (now (pix2depth .entry))) ⌝ }
 {
     if !some_offer(z0, z1, z2, z3) {
         return;
     }
-    visit_if_greater(pix2tri, pix2depth, w, h, s, number, ix, iy, z0);
-    visit_if_greater(pix2tri, pix2depth, w, h, s, number, ix, iy + 1, z1);
-    visit_if_greater(pix2tri, pix2depth, w, h, s, number, ix, iy + 2, z2);
-    visit_if_greater(pix2tri, pix2depth, w, h, s, number, ix, iy + 3, z3);
+    visit_if_greater(pix2tri, pix2depth, w, h, s, side, number, ix, iy, z0);
+    visit_if_greater(pix2tri, pix2depth, w, h, s, side, number, ix, iy + 1, z1);
+    visit_if_greater(pix2tri, pix2depth, w, h, s, side, number, ix, iy + 2, z2);
+    visit_if_greater(pix2tri, pix2depth, w, h, s, side, number, ix, iy + 3, z3);
 }
 
 // Rows iy to iy + 4 of column ix, as far as they are before y1: four depths are worked out side by side, and the pixels where one can be greater than what
@@ -130,6 +138,7 @@ pub fn visit_four(
     w: usize,
     h: usize,
     s: Screen,
+    side: Side,
     number: u32,
     ix: usize,
     iy: usize,
@@ -142,19 +151,33 @@ pub fn visit_four(
     requires { ⌜ (iy + 4 ≤ h) × (iy < y1) ⌝ }
     requires { ⌜ (y1 ≤ h) × (ix < w) ⌝ }
     requires { ⌜ (qx ≡ centre ix) × (qy ≡ centre iy) ⌝ }
-    ensures { λ _. ⌜ layer (now (pix2tri .exit)) (now (pix2depth .exit)) ≡ visited (depthCells (screenOf s) number w) (rowsDown w ix iy (upTo y1 (iy + 4))) (layer (now (pix2tri .entry)) (now (pix2depth .entry))) ⌝ }
+    ensures { λ _. ⌜ layer (now (pix2tri .exit)) (now (pix2depth .exit)) ≡ visited (depthCells (within side) (screenOf s) number w) (rowsDown w ix iy (upTo y1 (iy + 4))) (layer (now (pix2tri .entry)) (now (pix2depth .entry))) ⌝ }
 {
     let end = pixels::centre(y1 - 1);
     let q1 = qy + 1.0;
     let q2 = qy + 2.0;
     let q3 = qy + 3.0;
-    let z0 = lanes::lane(s, qx, qy);
-    let z1 = lanes::lane(s, qx, q1);
-    let z2 = lanes::lane(s, qx, q2);
-    let z3 = lanes::lane(s, qx, q3);
+    let z0 = lanes::lane(s, side, qx, qy);
+    let z1 = lanes::lane(s, side, qx, q1);
+    let z2 = lanes::lane(s, side, qx, q2);
+    let z3 = lanes::lane(s, side, qx, q3);
     let m0 = lanes::up_to(end, qy, z0);
     let m1 = lanes::up_to(end, q1, z1);
     let m2 = lanes::up_to(end, q2, z2);
     let m3 = lanes::up_to(end, q3, z3);
-    visit_greater(pix2tri, pix2depth, w, h, s, number, ix, iy, m0, m1, m2, m3);
+    visit_greater(
+        pix2tri,
+        pix2depth,
+        w,
+        h,
+        s,
+        side,
+        number,
+        ix,
+        iy,
+        m0,
+        m1,
+        m2,
+        m3,
+    );
 }

@@ -9,7 +9,7 @@ ghost use mathlib.Core.Bool.{true};
 ghost use Prim.Native.Nat.{_≤_};
 ghost use Rattle.questions.specs.Laws.{Sized};
 ghost use Rattle.rules.specs.Scan as rule;
-ghost use Rattle.pieces.specs.Answer.{pieceOf};
+ghost use Rattle.pieces.specs.Answer.{cornersIn};
 ghost use Rattle.boxes.specs.Answer.{screenOf};
 ghost use Rattle.boxes.specs.Box.{Meets, Scanned};
 
@@ -37,7 +37,7 @@ pub struct Box {
 // Whether the scan of the piece can hold a pixel of the image. Pieces off the image leave early: the columns are tested before the rows are worked out.
 pub fn meets_image(w: usize, h: usize, ndc: [[f32; 3]; 3]) -> bool
     requires { ⌜ Sized 1 w h ⌝ }
-    ensures { λ r. ⌜ Meets (rule.screened w h (pieceOf ndc)) w h r ⌝ }
+    ensures { λ r. ⌜ Meets (rule.screened w h (cornersIn ndc)) w h r ⌝ }
 {
     if !axis::spans_centre(false, ndc[0][0], ndc[1][0], ndc[2][0], w) {
         return false;
@@ -48,7 +48,7 @@ pub fn meets_image(w: usize, h: usize, ndc: [[f32; 3]; 3]) -> bool
 pub fn screened(w: usize, h: usize, ndc: [[f32; 3]; 3]) -> Screen
     requires { ⌜ w ≤ 4096 ⌝ }
     requires { ⌜ h ≤ 4096 ⌝ }
-    ensures { λ r. ⌜ screenOf r ≡ rule.screened w h (pieceOf ndc) ⌝ }
+    ensures { λ r. ⌜ screenOf r ≡ rule.screened w h (cornersIn ndc) ⌝ }
 {
     Screen {
         x0: axis::in_pixels(false, w, ndc[0][0]),

@@ -1,6 +1,6 @@
 -- What an accepted call of `pix2tri_by_rasterization` knows, and the outcome of a refused and of an accepted one.
 use Prim.Native.Nat.{ℕ, _+_, _*_, _/_, _≤_}
-use mathlib.Core.Path.{_≡_}
+use mathlib.Core.Path.{_≡_, ap, _∙_}
 use mathlib.Core.Bool.{true}
 use mathlib.Core.List.{List, []}
 use borrow.Author.Tests.{leb-true}
@@ -15,9 +15,10 @@ use Rattle.layers.specs.Laws.Answers.{exact-spans}
 use Rattle.meshes.specs.Mesh.{facesOf}
 use Rattle.meshes.specs.Sound.{SoundMesh}
 use Rattle.meshes.specs.Laws.{sound-mesh}
+use Rattle.rules.specs.declared.Facing.{Facing}
 use Rattle.rules.specs.Offers.{scene}
 use Rattle.rules.specs.Draw.{drawn}
-use Rattle.rules.specs.Calls.{drawCode, draws}
+use Rattle.rules.specs.Calls.{drawCode, facingOf, draws}
 
 fits : (first faces : ℕ) → numbers first faces ≡ true → first + faces ≤ mostCount
 unfolding numbers
@@ -35,11 +36,11 @@ module _ (l : Layer) (tri : List ℕ) (xyz : List Float) (w h first : ℕ) where
       let q3' = sliced (length tri) (length xyz) (q3 .0) in
       (sized 1 w h (q1 .0), (exact-spans w h l (q4 .0), (sound-mesh (q3' .0) (q3' .1) (q6 .0), fits first (length tri / 3) (q5 .0))))
 
-  pub draw-refused : (m : List Float) (code : ℕ) → code ≡ drawCode l tri xyz w h first → (code ≡ 0 → ⊥) → outcome code l ≡ draws l tri xyz w h m first
+  pub draw-refused : (m : List Float) (facing code : ℕ) → code ≡ drawCode l tri xyz w h first → (code ≡ 0 → ⊥) → outcome code l ≡ draws l tri xyz w h m first facing
   unfolding draws
-  draw-refused m code e no0 = call-refused _ e no0
+  draw-refused m facing code e no0 = call-refused _ e no0
 
-  pub draw-done : (m : List Float) (code : ℕ) (new : Layer) → code ≡ drawCode l tri xyz w h first → code ≡ 0 → new ≡ drawn (scene m xyz w h) (facesOf tri) first l
-      → outcome 0 new ≡ draws l tri xyz w h m first
+  pub draw-done : (m : List Float) (facing code : ℕ) {named : Facing} (new : Layer) → code ≡ drawCode l tri xyz w h first → code ≡ 0 → named ≡ facingOf facing → new ≡ drawn (scene m xyz w h named) (facesOf tri) first l
+      → outcome 0 new ≡ draws l tri xyz w h m first facing
   unfolding draws
-  draw-done m code new e zero0 made = call-done l e zero0 made
+  draw-done m facing code new e zero0 f made = call-done l e zero0 (made ∙ ap (λ (n : Facing). drawn (scene m xyz w h n) (facesOf tri) first l) f)

@@ -1,9 +1,10 @@
 // Drawing: the public call `pix2tri_by_rasterization`.
 
+use rules::Facing;
 ghost use mathlib.Core.Path.{_≡_};
 ghost use Rattle.questions.specs.Questions.{outcome};
 ghost use Rattle.cells.specs.Layer.{layer};
-ghost use Rattle.rules.specs.Calls.{drawCode, draws};
+ghost use Rattle.rules.specs.Calls.{drawCode, facingOf, draws};
 
 // Questions 1, 3, 4, 5 and 6.
 fn draw_code(
@@ -35,6 +36,16 @@ fn draw_code(
     0
 }
 
+// The facing that a number names.
+fn facing_of(n: u32) -> Facing
+    ensures { λ r. ⌜ r ≡ facingOf n ⌝ }
+{
+    if n == 0 {
+        return Facing::All;
+    }
+    Facing::Front
+}
+
 // The faces drawn on the layer, numbered from `first`.
 pub fn pix2tri_by_rasterization(
     pix2tri: &mut [u32],
@@ -45,9 +56,10 @@ pub fn pix2tri_by_rasterization(
     img_h: usize,
     transform_world2ndc: &[f32; 16],
     first: u32,
+    facing: u32,
 ) -> u32
     ensures { λ r. ⌜ outcome r (layer (now (pix2tri .exit)) (now (pix2depth .exit)))
-        ≡ draws (layer (now (pix2tri .entry)) (now (pix2depth .entry))) (now (tri2vtx .entry)) (now (vtx2xyz .entry)) «img_w» «img_h» (now («transform_world2ndc» .entry)) first ⌝ }
+        ≡ draws (layer (now (pix2tri .entry)) (now (pix2depth .entry))) (now (tri2vtx .entry)) (now (vtx2xyz .entry)) «img_w» «img_h» (now («transform_world2ndc» .entry)) first facing ⌝ }
 {
     let code = draw_code(pix2tri, pix2depth, tri2vtx, vtx2xyz, img_w, img_h, first);
     if code != 0 {
@@ -62,6 +74,7 @@ pub fn pix2tri_by_rasterization(
         img_h,
         transform_world2ndc,
         first,
+        facing_of(facing),
     );
     0
 }

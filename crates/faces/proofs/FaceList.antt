@@ -17,7 +17,7 @@ use Rattle.raster.specs.Face.{piecesCells}
 
 module _ (sc : Scene) where
   -- what is still to be brought, with the face at hand
-  rest-is : (f : Face) (fs : List Face) (k p : ℕ) → piecesCells (sc .width) (sc .height) (facePieces sc f) k p ++ brought sc fs (k + 1) p ≡ brought sc (f ∷ fs) k p
+  rest-is : (f : Face) (fs : List Face) (k p : ℕ) → piecesCells (sc .facing) (sc .width) (sc .height) (facePieces sc f) k p ++ brought sc fs (k + 1) p ≡ brought sc (f ∷ fs) k p
   unfolding brought any.brought piecesCells brings
   rest-is f fs k p = rw add-one
 
@@ -28,12 +28,12 @@ module _ (sc : Scene) where
   -- a face drawn: the others are left
   pub face-done :
       (f : Face) (fs : List Face) (k : ℕ) (cur new : Layer)
-      → new ≡ painted (piecesCells (sc .width) (sc .height) (facePieces sc f) k) (sc .width * sc .height) cur
+      → new ≡ painted (piecesCells (sc .facing) (sc .width) (sc .height) (facePieces sc f) k) (sc .width * sc .height) cur
       → painted (brought sc fs (k + 1)) (sc .width * sc .height) new ≡ painted (brought sc (f ∷ fs) k) (sc .width * sc .height) cur
   face-done f fs k cur new e =
       ap (painted (brought sc fs (k + 1)) (sc .width * sc .height)) e
-      ∙ painted-append (sc .width * sc .height) cur (piecesCells (sc .width) (sc .height) (facePieces sc f) k) (brought sc fs (k + 1))
-      ∙ painted-same (sc .width * sc .height) cur (λ p. piecesCells (sc .width) (sc .height) (facePieces sc f) k p ++ brought sc fs (k + 1) p) (brought sc (f ∷ fs) k) (λ p m. rest-is f fs k p)
+      ∙ painted-append (sc .width * sc .height) cur (piecesCells (sc .facing) (sc .width) (sc .height) (facePieces sc f) k) (brought sc fs (k + 1))
+      ∙ painted-same (sc .width * sc .height) cur (λ p. piecesCells (sc .facing) (sc .width) (sc .height) (facePieces sc f) k p ++ brought sc fs (k + 1) p) (brought sc (f ∷ fs) k) (λ p m. rest-is f fs k p)
 
 -- Before face i: it has number k, and what it and the faces after it bring is all that is left to paint.
 pub record Left (sc : Scene) (fs : List Face) (first : ℕ) (l cur : Layer) (i k : ℕ) : Type 0 where
@@ -49,12 +49,12 @@ pub left-less :
     (sc : Scene) (tri : List ℕ) (first : ℕ) (l cur new : Layer) (i k : ℕ)
     → i < length tri / 3
     → Left sc (facesOf tri) first l cur i k
-    → new ≡ painted (piecesCells (sc .width) (sc .height) (facePieces sc (faceAt tri i)) k) (sc .width * sc .height) cur
+    → new ≡ painted (piecesCells (sc .facing) (sc .width) (sc .height) (facePieces sc (faceAt tri i)) k) (sc .width * sc .height) cur
     → Left sc (facesOf tri) first l new (i + 1) (k + 1)
 left-less sc tri first l cur new i k h t e =
     record {
       number = omega (arith, t .number);
-      spans = rw e (spans-painted (piecesCells (sc .width) (sc .height) (facePieces sc (faceAt tri i)) k) (sc .width * sc .height) cur);
+      spans = rw e (spans-painted (piecesCells (sc .facing) (sc .width) (sc .height) (facePieces sc (faceAt tri i)) k) (sc .width * sc .height) cur);
       is =
           face-done sc (faceAt tri i) (drop (i + 1) (facesOf tri)) k cur new e
           ∙ ap (λ (fs : List Face). painted (brought sc fs k) (sc .width * sc .height) cur) (sym (faces-from tri i h))

@@ -1,5 +1,6 @@
 // Drawing all faces on a layer, one after the other. `draw_faces` is lent to the crate that asks the questions first. No function here is a public call.
 
+use rules::Facing;
 ghost use mathlib.Core.Path.{_≡_};
 ghost use Prim.Native.Nat.{_+_, _*_, _/_, _≤_};
 ghost use lib.ListN.{length};
@@ -22,18 +23,30 @@ pub fn draw_faces(
     h: usize,
     m: &[f32; 16],
     first: u32,
+    facing: Facing,
 )
     requires { ⌜ Sized 1 w h ⌝ }
     requires { ⌜ Spans (layer (now pix2tri) (now pix2depth)) (w * h) ⌝ }
     requires { ⌜ SoundMesh (now tri2vtx) (now vtx2xyz) ⌝ }
     requires { ⌜ first + length (now tri2vtx) / 3 ≤ mostCount ⌝ }
-    ensures { λ _. ⌜ layer (now (pix2tri .exit)) (now (pix2depth .exit)) ≡ drawn (scene (now (m .entry)) (now (vtx2xyz .entry)) w h) (facesOf (now (tri2vtx .entry))) first (layer (now (pix2tri .entry)) (now (pix2depth .entry))) ⌝ }
+    ensures { λ _. ⌜ layer (now (pix2tri .exit)) (now (pix2depth .exit)) ≡ drawn (scene (now (m .entry)) (now (vtx2xyz .entry)) w h facing) (facesOf (now (tri2vtx .entry))) first (layer (now (pix2tri .entry)) (now (pix2depth .entry))) ⌝ }
 {
     let count = tri2vtx.len() / 3;
     let mut i: usize = 0;
     let mut number = first;
     while i < count {
-        raster::draw_face(pix2tri, pix2depth, w, h, number, tri2vtx, vtx2xyz, m, i);
+        raster::draw_face(
+            pix2tri,
+            pix2depth,
+            w,
+            h,
+            number,
+            tri2vtx,
+            vtx2xyz,
+            m,
+            i,
+            facing,
+        );
         number += 1;
         i += 1;
     }

@@ -2,12 +2,14 @@
 use mathlib.Core.Option.{Option, none, some}
 use lib.Ieee.{Float}
 use Rattle.geometry.specs.Vector
-use Rattle.geometry.specs.Vector.{Weights, weights, projected, vec2, vec3}
+use Rattle.geometry.specs.Vector.{Weighed, weighedBy, projected, vec2, vec3}
 use Rattle.geometry.specs.declared.Vec2 as code2
 use Rattle.geometry.specs.declared.Vec3 as code3
 use Rattle.geometry.specs.declared.Projected as codeP
 use Rattle.geometry.specs.declared.Projection.{Projection}
 use Rattle.geometry.specs.declared.Projection.the-variants.{At, Nowhere}
+use Rattle.geometry.specs.declared.Weights as codeW
+use Rattle.geometry.specs.declared.Weights.the-variants as code
 use Rattle.geometry.specs.declared.CornerWeights.{CornerWeights}
 use Rattle.geometry.specs.declared.CornerWeights.the-variants.{Three, Nothing}
 
@@ -21,9 +23,14 @@ abbrev pub projectedOf : codeP.Projected → Vector.Projected Float
 projectedOf a = projected (vec3 (a .x) (a .y) (a .z)) (a .w)
 
 -- three weights, or none
-abbrev pub weightsOf : CornerWeights → Option (Weights Float)
-weightsOf (Three b0 b1 b2) = some (weights b0 b1 b2)
-weightsOf Nothing = none
+abbrev pub weightsOf : codeW.Weights → Option (Vector.Weights Float)
+weightsOf (code.Three b0 b1 b2) = some (Vector.weights b0 b1 b2)
+weightsOf code.Nothing = none
+
+-- three weights and their sum, or none
+abbrev pub cornerWeightsOf : CornerWeights → Option (Weighed Float)
+cornerWeightsOf (Three b0 b1 b2 s) = some (weighedBy (Vector.weights b0 b1 b2) s)
+cornerWeightsOf Nothing = none
 
 -- a projected point and its divisor, or no answer
 abbrev pub projectionOf : Projection → Option (Vector.Projected Float)

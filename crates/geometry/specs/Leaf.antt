@@ -7,7 +7,7 @@ use lib.ListN.{getD}
 use lib.Ieee.Scale.{finite}
 use lib.Ieee.{Float, nan, eq}
 use Rattle.geometry.specs.Arith.{floats}
-use Rattle.geometry.specs.Vector.{Vec2, Vec3, Weights, Projected}
+use Rattle.geometry.specs.Vector.{Vec2, Vec3, Weights, Weighed, weighedBy, Projected}
 use Rattle.geometry.specs.Formula.{areas, total, overTotal, row, over}
 
 -- Either three weights a/s, or none, when s is 0 or not finite
@@ -17,9 +17,17 @@ weighed a s = cond (finite s && not (eq s (floats .zero))) (some (overTotal floa
 unfoldable pub weighedAll : Weights Float → Option (Weights Float)
 weighedAll a = weighed a (total floats a)
 
--- the corner weights of q in the triangle p0, p1, p2
-unfoldable pub cornerWeights : Vec2 Float → Vec2 Float → Vec2 Float → Vec2 Float → Option (Weights Float)
-cornerWeights q p0 p1 p2 = weighedAll (areas floats q p0 p1 p2)
+-- 02, Point 8: where there are weights, s beside them
+unfoldable pub withSum : Float → Option (Weights Float) → Option (Weighed Float)
+withSum s none = none
+withSum s (some b) = some (weighedBy b s)
+
+unfoldable pub weighedWithSum : Weights Float → Option (Weighed Float)
+weighedWithSum a = withSum (total floats a) (weighedAll a)
+
+-- the corner weights of q in the triangle p0, p1, p2, and s, the doubled signed area
+unfoldable pub cornerWeights : Vec2 Float → Vec2 Float → Vec2 Float → Vec2 Float → Option (Weighed Float)
+cornerWeights q p0 p1 p2 = weighedWithSum (areas floats q p0 p1 p2)
 
 -- a matrix has 16 numbers, column-major
 abbrev pub entries : List Float → ℕ → Float

@@ -27,6 +27,14 @@ pub record Weights (A : Type 0) : Type 0 where
 abbrev pub weights : {A : Type 0} → A → A → A → Weights A
 weights b0 b1 b2 = record { b0 = b0; b1 = b1; b2 = b2 }
 
+-- weights b, and the sum s of the areas that they are over
+pub record Weighed (A : Type 0) : Type 0 where
+  pub b : Weights A
+  pub s : A
+
+abbrev pub weighedBy : {A : Type 0} → Weights A → A → Weighed A
+weighedBy b s = record { b = b; s = s }
+
 -- a projected point p, and the divisor w that it came from
 pub record Projected (A : Type 0) : Type 0 where
   pub p : Vec3 A

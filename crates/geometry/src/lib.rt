@@ -7,7 +7,7 @@ ghost use Rattle.geometry.specs.Vector.{weights};
 ghost use Rattle.geometry.specs.Formula as formula;
 ghost use lib.Ieee.Scale as scale;
 ghost use Rattle.geometry.specs.Leaf as leaf;
-ghost use Rattle.geometry.specs.Answer.{point2, point3, weightsOf, projectionOf};
+ghost use Rattle.geometry.specs.Answer.{point2, point3, weightsOf, cornerWeightsOf, projectionOf};
 
 pub struct Vec2 {
     pub x: f32,
@@ -33,8 +33,14 @@ pub enum Projection {
     Nowhere,
 }
 
-pub enum CornerWeights {
+pub enum Weights {
     Three(f32, f32, f32),
+    Nothing,
+}
+
+// Three weights, and the sum of the areas that they are over: the doubled signed area of the triangle.
+pub enum CornerWeights {
+    Three(f32, f32, f32, f32),
     Nothing,
 }
 
@@ -55,25 +61,29 @@ pub fn cross2(a: Vec2, b: Vec2, c: Vec2) -> f32
 }
 
 // Weights a / s from the areas a and their sum s, none when s is 0 or not finite.
-pub fn weighed(a0: f32, a1: f32, a2: f32, s: f32) -> CornerWeights
+pub fn weighed(a0: f32, a1: f32, a2: f32, s: f32) -> Weights
     ensures { λ r. ⌜ weightsOf r ≡ leaf.weighed (weights a0 a1 a2) s ⌝ }
 {
     if !finite(s) {
-        return CornerWeights::Nothing;
+        return Weights::Nothing;
     }
     if s == 0.0 {
-        return CornerWeights::Nothing;
+        return Weights::Nothing;
     }
-    CornerWeights::Three(a0 / s, a1 / s, a2 / s)
+    Weights::Three(a0 / s, a1 / s, a2 / s)
 }
 
 pub fn corner_weights(q: Vec2, p0: Vec2, p1: Vec2, p2: Vec2) -> CornerWeights
-    ensures { λ r. ⌜ weightsOf r ≡ leaf.cornerWeights (point2 q) (point2 p0) (point2 p1) (point2 p2) ⌝ }
+    ensures { λ r. ⌜ cornerWeightsOf r ≡ leaf.cornerWeights (point2 q) (point2 p0) (point2 p1) (point2 p2) ⌝ }
 {
     let a0 = cross2(q, p1, p2);
     let a1 = cross2(q, p2, p0);
     let a2 = cross2(q, p0, p1);
-    weighed(a0, a1, a2, a0 + a1 + a2)
+    let s = a0 + a1 + a2;
+    let Weights::Three(b0, b1, b2) = weighed(a0, a1, a2, s) else {
+        return CornerWeights::Nothing;
+    };
+    CornerWeights::Three(b0, b1, b2, s)
 }
 
 // One coordinate of a point from weights.

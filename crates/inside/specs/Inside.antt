@@ -4,7 +4,7 @@ use mathlib.Core.Option.{Option, none, some}
 use mathlib.Core.List.{List}
 use lib.Ieee.{Float, le}
 use Rattle.geometry.specs.Arith.{floats}
-use Rattle.geometry.specs.Vector.{Vec2, flat, Weights, Projected, Triangle, triangle}
+use Rattle.geometry.specs.Vector.{Vec2, flat, Weights, Weighed, Projected, Triangle, triangle}
 use Rattle.geometry.specs.Leaf.{cornerWeights, project}
 use Rattle.meshes.specs.Mesh.{Face, vertexAt}
 
@@ -12,9 +12,9 @@ unfoldable pub allAtLeastZero : Weights Float → Bool
 allAtLeastZero b = le (floats .zero) (b .b0) && (le (floats .zero) (b .b1) && le (floats .zero) (b .b2))
 
 -- "In `bwd` the weights must all be ≥ 0 and none means outside." By Point 4 of 02 it is the type call's test, too.
-unfoldable pub allInside : Option (Weights Float) → Bool
+unfoldable pub allInside : Option (Weighed Float) → Bool
 allInside none = false
-allInside (some b) = allAtLeastZero b
+allInside (some a) = allAtLeastZero (a .b)
 
 -- three corners, or none where one of them is missing
 unfoldable pub allThree : {A : Type 0} → Option A → Option A → Option A → Option (Triangle A)
@@ -28,12 +28,12 @@ unfoldable pub projectFace : List Float → List Float → Face → Option (Tria
 projectFace m xyz f = allThree (project m (vertexAt xyz (f .v0))) (project m (vertexAt xyz (f .v1))) (project m (vertexAt xyz (f .v2)))
 
 -- the weights of q in a projected face; none, too, where a corner has no projection, which question 8 refuses
-unfoldable pub weightsIn : Vec2 Float → Option (Triangle (Projected Float)) → Option (Weights Float)
+unfoldable pub weightsIn : Vec2 Float → Option (Triangle (Projected Float)) → Option (Weighed Float)
 weightsIn q none = none
 weightsIn q (some t) = cornerWeights q (flat (t .p0 .p)) (flat (t .p1 .p)) (flat (t .p2 .p))
 
 -- Whether what a pixel shows contains the point q, by a test of the weights: "An empty neighbour counts as containing the point".
-unfoldable pub contains : (Option (Weights Float) → Bool) → List Float → List Float → Option Face → Vec2 Float → Bool
+unfoldable pub contains : (Option (Weighed Float) → Bool) → List Float → List Float → Option Face → Vec2 Float → Bool
 contains test m xyz none q = true
 contains test m xyz (some f) q = test (weightsIn q (projectFace m xyz f))
 

@@ -7,7 +7,7 @@ ghost use Prim.Native.Nat.{_+_, _*_, _/_, _<_};
 ghost use lib.ListN.{length, getD};
 ghost use Rattle.questions.specs.Questions.{namesFace};
 ghost use Rattle.geometry.specs.Vector.{weights, triangle};
-ghost use Rattle.geometry.specs.Answer.{point2, projectedOf, weightsOf};
+ghost use Rattle.geometry.specs.Answer.{point2, projectedOf, cornerWeightsOf};
 ghost use Rattle.geometry.specs.Leaf.{project};
 ghost use Rattle.meshes.specs.Mesh.{faceAt, vertexAt};
 ghost use Rattle.meshes.specs.View.{named};
@@ -32,9 +32,9 @@ fn all_at_least_zero(b0: f32, b1: f32, b2: f32) -> bool
 
 // The test of both edge passes: the weights are all >= 0, and none means outside.
 pub fn all_inside(b: CornerWeights) -> bool
-    ensures { λ r. ⌜ r ≡ spec.allInside (weightsOf b) ⌝ }
+    ensures { λ r. ⌜ r ≡ spec.allInside (cornerWeightsOf b) ⌝ }
 {
-    let CornerWeights::Three(b0, b1, b2) = b else {
+    let CornerWeights::Three(b0, b1, b2, _) = b else {
         return false;
     };
     all_at_least_zero(b0, b1, b2)
@@ -42,7 +42,7 @@ pub fn all_inside(b: CornerWeights) -> bool
 
 // The weights of q in the triangle of three projected corners.
 fn weights_in(q: Vec2, p0: Projected, p1: Projected, p2: Projected) -> CornerWeights
-    ensures { λ r. ⌜ weightsOf r ≡ spec.weightsIn (point2 q) (some (triangle (projectedOf p0) (projectedOf p1) (projectedOf p2))) ⌝ }
+    ensures { λ r. ⌜ cornerWeightsOf r ≡ spec.weightsIn (point2 q) (some (triangle (projectedOf p0) (projectedOf p1) (projectedOf p2))) ⌝ }
 {
     geometry::corner_weights(
         q,

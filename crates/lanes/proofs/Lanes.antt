@@ -1,61 +1,69 @@
 -- The straight way to a pixel's depth gives what the way with its early ends gives.
-use Prim.Native.Nat.{ℕ, _*_, _-_, _<_}
-use mathlib.Core.Path.{_≡_, refl}
+use mathlib.Core.Path.{_≡_, refl, sym, ap, _∙_}
 use mathlib.Core.Bool.{Bool, true, false, not, _&&_, cond}
 use mathlib.Core.Option.{none, some}
-use native.Mathlib.Nat.{mul-pos, sub-self}
-use native.Mathlib.Omega.{arith}
-use borrow.Author.Tests.{le-ltb}
-use lib.IntN.{ℤ, pos}
-use lib.Ieee.{Float, nan, inf, fin, binary32, up, down, neg, add, sub, sum, round, lt, eq, ofBits}
-use lib.Ieee.Fits.{down-pos}
-use lib.Ieee.Scale.{finite, round-same}
+use lib.Ieee.{Float, nan, inf, fin, lt, eq}
+use lib.Ieee.Scale.{finite}
+use Rattle.lists.specs.Laws.Tests.{both}
 use Rattle.geometry.specs.Arith.{floats}
 use Rattle.geometry.specs.Vector.{Vec3, Weights, weights, Triangle}
 use Rattle.geometry.specs.Formula.{overTotal, blend}
-use Rattle.geometry.specs.Leaf.{weighed}
+use Rattle.geometry.specs.Leaf.{weighed, withSum}
 use Rattle.offers.specs.Offer.{lowest}
 use Rattle.rules.specs.Scan.{weighedDepth, kept, dropBelow, dropped}
-use Rattle.lanes.specs.Answer.{orLowest}
+use Rattle.lanes.specs.declared.Side.{Side}
+use Rattle.lanes.specs.Answer.{within, orLowest}
 
--- ---- a number less itself is 0 only where it is finite
+-- ---- what lies between any two ends is finite
 
-zero-round : (c : ℕ) → 0 < c → round binary32 false 0 c ≡ fin false 0 (pos 0)
-unfolding round
-zero-round c h = round-same binary32 false 0 c 0 1 h (omega arith) (omega arith)
+not-below-nan : (x : Float) → lt x nan ≡ false
+unfolding lt
+not-below-nan nan = refl
+not-below-nan (inf s) = refl
+not-below-nan (fin s m e) = refl
 
-less-itself : (s : Bool) (m : ℕ) (e : ℤ) → sub binary32 (fin s m e) (fin s m e) ≡ fin false 0 (pos 0)
-unfolding sub add neg sum
-less-itself true m e =
-    rw (le-ltb (m * up e * down e) (m * up e * down e) (omega arith), sub-self (m * up e * down e)) (zero-round (down e * down e) (mul-pos (down-pos e) (down-pos e)))
-less-itself false m e =
-    rw (le-ltb (m * up e * down e) (m * up e * down e) (omega arith), sub-self (m * up e * down e)) (zero-round (down e * down e) (mul-pos (down-pos e) (down-pos e)))
+not-below-lowest : (x : Float) → lt x (inf true) ≡ false
+unfolding lt
+not-below-lowest nan = refl
+not-below-lowest (inf true) = refl
+not-below-lowest (inf false) = refl
+not-below-lowest (fin s m e) = refl
 
-finite-is : (t : Float) → eq (sub binary32 t t) (floats .zero) ≡ finite t
-unfolding sub add neg eq ofBits
-finite-is nan = refl
-finite-is (inf true) = refl
-finite-is (inf false) = refl
-finite-is (fin s m e) = rw (less-itself s m e)
+not-above-greatest : (x : Float) → lt (inf false) x ≡ false
+unfolding lt
+not-above-greatest nan = refl
+not-above-greatest (inf s) = refl
+not-above-greatest (fin s m e) = refl
+
+within-finite : (a : Side) (t : Float) → within a t ≡ true → finite t ≡ true
+unfolding within
+within-finite a nan e = sym (ap (λ (b : Bool). b && lt nan (a .below)) (not-below-nan (a .above))) ∙ e
+within-finite a (inf true) e = sym (ap (λ (b : Bool). b && lt (inf true) (a .below)) (not-below-lowest (a .above))) ∙ e
+within-finite a (inf false) e = sym (not-above-greatest (a .below)) ∙ both (lt (a .above) (inf false)) _ e .1
+within-finite a (fin s m x) e = refl
 
 -- ---- the depth, or −infinity
 
-module _ (s : Triangle (Vec3 Float)) (a : Weights Float) (t : Float) where
-  pub lane-is :
-      cond (not (eq (sub binary32 t t) (floats .zero))) lowest
-      (cond (eq t (floats .zero)) lowest (cond (dropped (overTotal floats a t)) lowest (blend floats (overTotal floats a t) (s .p0 .z) (s .p1 .z) (s .p2 .z))))
-      ≡ orLowest (weighedDepth s (weighed a t))
-  unfolding weighed weighedDepth kept orLowest
-  lane-is = rw (finite-is t) (go (finite t) (eq t (floats .zero)) (dropped (overTotal floats a t)) refl)
+module _ (side : Side) (s : Triangle (Vec3 Float)) (a : Weights Float) (t : Float) where
+  abbrev straight : Float
+  straight = cond (eq t (floats .zero)) lowest (cond (dropped (overTotal floats a t)) lowest (blend floats (overTotal floats a t) (s .p0 .z) (s .p1 .z) (s .p2 .z)))
+
+  pub lane-is : cond (not (within side t)) lowest straight ≡ orLowest (weighedDepth (within side) s (withSum t (weighed a t)))
+  unfolding weighed withSum weighedDepth kept orLowest
+  lane-is = go (within side t) refl
     where
-      go :
-          (f e d : Bool) → dropped (overTotal floats a t) ≡ d
-          → cond (not f) lowest (cond e lowest (cond (dropped (overTotal floats a t)) lowest (blend floats (overTotal floats a t) (s .p0 .z) (s .p1 .z) (s .p2 .z))))
-          ≡ orLowest (weighedDepth s (cond (f && not e) (some (overTotal floats a t)) none))
-      go false e d q = refl
-      go true true d q = refl
-      go true false true q = rw q
-      go true false false q = rw q
+      counted : (e d : Bool) → eq t (floats .zero) ≡ e → dropped (overTotal floats a t) ≡ d → finite t ≡ true → within side t ≡ true → straight ≡ orLowest (weighedDepth (within side) s (withSum t (weighed a t)))
+      counted true d f g h k = rw (f, h)
+      counted false true f g h k = rw (f, h, k, g)
+      counted false false f g h k = rw (f, h, k, g)
+
+      left-out : (b : Bool) → within side t ≡ false → lowest ≡ orLowest (weighedDepth (within side) s (withSum t (cond b (some (overTotal floats a t)) none)))
+      left-out true k = rw k
+      left-out false k = refl
+
+      go : (w : Bool) → within side t ≡ w → cond (not (within side t)) lowest straight ≡ orLowest (weighedDepth (within side) s (withSum t (weighed a t)))
+      go true k = rw k (counted (eq t (floats .zero)) (dropped (overTotal floats a t)) refl refl (within-finite side t k) k)
+      go false k = rw k (left-out (finite t && not (eq t (floats .zero))) k)
 
 -- ---- the tests of the three weights, one after the other
 

@@ -1,2 +1,3 @@
 -- Lemmas that several proofs cite.
 pub mod Lanes
+pub mod Sides

@@ -1,7 +1,13 @@
--- A depth in the place of at most one.
+-- The sums that count, and a depth in the place of at most one.
+use mathlib.Core.Bool.{Bool, _&&_}
 use mathlib.Core.List.{List, [], _∷_}
-use lib.Ieee.{Float}
+use lib.Ieee.{Float, lt}
 use Rattle.offers.specs.Offer.{lowest}
+use Rattle.lanes.specs.declared.Side.{Side}
+
+-- between the two ends, and neither of them
+unfoldable pub within : Side → Float → Bool
+within a s = lt (a .above) s && lt s (a .below)
 
 -- no depth is −infinity, which is never greater than what is stored
 unfoldable pub orLowest : List Float → Float

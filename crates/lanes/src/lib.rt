@@ -3,14 +3,57 @@
 
 use boxes::Screen;
 use geometry::Vec2;
+use rules::Facing;
 ghost use mathlib.Core.Path.{_≡_};
 ghost use mathlib.Core.Bool.{cond};
-ghost use lib.Ieee.{lt, le};
+ghost use lib.Ieee.{Float, lt, le};
 ghost use Rattle.geometry.specs.Vector.{vec2, weights};
 ghost use Rattle.offers.specs.Offer.{lowest};
 ghost use Rattle.rules.specs.Scan as rule;
+ghost use Rattle.rules.specs.Laws.Facing.{Weighs};
 ghost use Rattle.boxes.specs.Answer.{screenOf};
-ghost use Rattle.lanes.specs.Answer.{orLowest};
+ghost use Rattle.lanes.specs.Answer.{within, orLowest};
+
+// The sums that a drawing counts, an open interval: whatever its ends, what lies between is finite.
+pub struct Side {
+    pub above: f32,
+    pub below: f32,
+}
+
+// What a facing counts of a piece, of all sums that weights can have.
+pub fn side_of(facing: Facing, turned: bool) -> Side
+    ensures { λ r. ⌜ ((s : Float) → Weighs s → within r s ≡ rule.counts facing turned s) ⌝ }
+{
+    let infinity = f32::from_bits(0x7f80_0000);
+    match facing {
+        Facing::All => Side {
+            above: -infinity,
+            below: infinity,
+        },
+        Facing::Front => {
+            if turned {
+                return Side {
+                    above: -infinity,
+                    below: 0.0,
+                };
+            }
+            Side {
+                above: 0.0,
+                below: infinity,
+            }
+        }
+    }
+}
+
+// Whether a sum is one of them.
+pub fn counts(side: Side, s: f32) -> bool
+    ensures { λ r. ⌜ r ≡ within side s ⌝ }
+{
+    if side.above < s {
+        return s < side.below;
+    }
+    false
+}
 
 // A weight below −1e-5 drops the pixel. A NaN passes, and the depth it makes is never greater than another.
 fn below(b: f32) -> bool
@@ -42,8 +85,8 @@ fn unless(none: bool, z: f32) -> f32
 }
 
 // What the divisions give where there are no weights counts for nothing.
-pub fn lane(s: Screen, qx: f32, qy: f32) -> f32
-    ensures { λ r. ⌜ r ≡ orLowest (rule.depthAt (screenOf s) (vec2 qx qy)) ⌝ }
+pub fn lane(s: Screen, side: Side, qx: f32, qy: f32) -> f32
+    ensures { λ r. ⌜ r ≡ orLowest (rule.depthAt (within side) (screenOf s) (vec2 qx qy)) ⌝ }
 {
     let q = Vec2 { x: qx, y: qy };
     let p0 = Vec2 { x: s.x0, y: s.y0 };
@@ -59,7 +102,7 @@ pub fn lane(s: Screen, qx: f32, qy: f32) -> f32
     let z = geometry::blend(b0, b1, b2, s.z0, s.z1, s.z2);
     let kept = unless(dropped(b0, b1, b2), z);
     let weighed = unless(t == 0.0, kept);
-    unless(!(t - t == 0.0), weighed)
+    unless(!counts(side, t), weighed)
 }
 
 // z where q is not past the end, which is the centre of the last column or row.

@@ -29,21 +29,21 @@ module _ (w h : ℕ) (s : Triangle (Vec3 Float)) where
 
 module _ (w h : ℕ) (t : Piece) where
   -- the columns times the rows
-  product : columns w h (screened w h t) * rows w h (screened w h t) ≡ piecePixels w h t
+  product : columns w h (screened w h (t .corners)) * rows w h (screened w h (t .corners)) ≡ piecePixels w h t
   unfolding piecePixels
   product =
-      let s = screened w h t in
+      let s = screened w h (t .corners) in
       sym
       (count-same (λ p. scans s (p % w) (p / w)) (λ p. holdsCentre (s .p0 .x) (s .p1 .x) (s .p2 .x) (p % w) && holdsCentre (s .p0 .y) (s .p1 .y) (s .p2 .y) (p / w)) 0 0 (w * h)
       (λ p l. by-axes s w h ((0 + p) % w) ((0 + p) / w))
       ∙ count-pixels (holdsCentre (s .p0 .x) (s .p1 .x) (s .p2 .x)) (holdsCentre (s .p0 .y) (s .p1 .y) (s .p2 .y)) w h)
 
   -- as the code has them
-  pub counted : {i j : ℕ} → i ≡ columns w h (screened w h t) → j ≡ rows w h (screened w h t) → i * j ≡ piecePixels w h t
+  pub counted : {i j : ℕ} → i ≡ columns w h (screened w h (t .corners)) → j ≡ rows w h (screened w h (t .corners)) → i * j ≡ piecePixels w h t
   counted e f = ap₂ _*_ e f ∙ product
 
-  pub no-columns : {i : ℕ} → i ≡ columns w h (screened w h t) → i ≡ 0 → 0 ≡ piecePixels w h t
-  no-columns e none = sym (ap (λ (n : ℕ). n * rows w h (screened w h t)) (sym e ∙ none) ∙ zero-mul _) ∙ product
+  pub no-columns : {i : ℕ} → i ≡ columns w h (screened w h (t .corners)) → i ≡ 0 → 0 ≡ piecePixels w h t
+  no-columns e none = sym (ap (λ (n : ℕ). n * rows w h (screened w h (t .corners))) (sym e ∙ none) ∙ zero-mul _) ∙ product
 
 -- which fits
 pub product-fits : (f g : ℕ → Bool) {i j w h : ℕ} → Sized 1 w h → i ≡ count f (span 0 w) → j ≡ count g (span 0 h) → i * j ≤ 16777216

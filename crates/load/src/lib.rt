@@ -2,6 +2,7 @@
 
 use pieces::Pieces;
 ghost use mathlib.Core.Path.{_≡_};
+ghost use mathlib.Core.Bool.{Bool};
 ghost use Prim.Native.Nat.{_/_, _≤_};
 ghost use lib.ListN.{length};
 ghost use Rattle.lists.specs.Lists.{sumOf};
@@ -9,6 +10,7 @@ ghost use Rattle.questions.specs.Questions.{outcome, mostCount};
 ghost use Rattle.questions.specs.Laws.{Sized};
 ghost use Rattle.meshes.specs.Mesh.{facesOf};
 ghost use Rattle.meshes.specs.Sound.{SoundMesh};
+ghost use Rattle.rules.specs.declared.Facing.the-variants.{All};
 ghost use Rattle.rules.specs.Offers.{scene};
 ghost use Rattle.rules.specs.Load as rule;
 ghost use Rattle.pieces.specs.Answer.{pieceOf, piecesOf};
@@ -22,10 +24,10 @@ pub struct DrawingLoad {
     pub pixels: u64,
 }
 
-// The pixels that the scan of a piece offers: its columns times its rows. Pieces off the image leave early.
+// The pixels that the scan of a piece offers, turned round or not: its columns times its rows. Pieces off the image leave early.
 fn piece_pixels(w: usize, h: usize, ndc: [[f32; 3]; 3]) -> u64
     requires { ⌜ Sized 1 w h ⌝ }
-    ensures { λ r. ⌜ r ≡ rule.piecePixels w h (pieceOf ndc) ⌝ }
+    ensures { λ r. ⌜ ((turned : Bool) → r ≡ rule.piecePixels w h (pieceOf turned ndc)) ⌝ }
 {
     let columns = boxes::axis::count_centres(false, w, ndc[0][0], ndc[1][0], ndc[2][0]);
     if columns == 0 {
@@ -42,10 +44,10 @@ fn pieces_pixels(w: usize, h: usize, ps: Pieces) -> u64
     match ps {
         Pieces::Nothing => 0,
         Pieces::Whole(a, b, c) => piece_pixels(w, h, pieces::whole(a, b, c)),
-        Pieces::One(a, b, c) => piece_pixels(w, h, pieces::one_piece(a, b, c)),
-        Pieces::Two(c, a, b) => {
-            let t = pieces::first_piece(c, a, b);
-            let u = pieces::second_piece(c, a, b);
+        Pieces::One(l) => piece_pixels(w, h, pieces::one_piece(l)),
+        Pieces::Two(l) => {
+            let t = pieces::first_piece(l);
+            let u = pieces::second_piece(l);
             piece_pixels(w, h, t) + piece_pixels(w, h, u)
         }
     }
@@ -56,7 +58,7 @@ fn mesh_load(tri2vtx: &[u32], vtx2xyz: &[f32], w: usize, h: usize, m: &[f32; 16]
     requires { ⌜ Sized 1 w h ⌝ }
     requires { ⌜ SoundMesh (now tri2vtx) (now vtx2xyz) ⌝ }
     requires { ⌜ length (now tri2vtx) / 3 ≤ mostCount ⌝ }
-    ensures { λ r. ⌜ answered r ≡ outcome 0 (rule.loadOf (scene (now (m .entry)) (now (vtx2xyz .entry)) w h) (facesOf (now (tri2vtx .entry)))) ⌝ }
+    ensures { λ r. ⌜ answered r ≡ outcome 0 (rule.loadOf (scene (now (m .entry)) (now (vtx2xyz .entry)) w h All) (facesOf (now (tri2vtx .entry)))) ⌝ }
 {
     let count = tri2vtx.len() / 3;
     let mut i: usize = 0;

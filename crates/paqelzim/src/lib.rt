@@ -47,9 +47,10 @@ pub extern "C" fn paqelzim_pix2tri_by_rasterization(
     img_h: usize,
     transform_world2ndc: &[f32; 16],
     first: u32,
+    facing: u32,
 ) -> u32
     ensures { λ r. ⌜ outcome r (layer (now (pix2tri .exit)) (now (pix2depth .exit)))
-        ≡ draws (layer (now (pix2tri .entry)) (now (pix2depth .entry))) (now (tri2vtx .entry)) (now (vtx2xyz .entry)) «img_w» «img_h» (now («transform_world2ndc» .entry)) first ⌝ }
+        ≡ draws (layer (now (pix2tri .entry)) (now (pix2depth .entry))) (now (tri2vtx .entry)) (now (vtx2xyz .entry)) «img_w» «img_h» (now («transform_world2ndc» .entry)) first facing ⌝ }
 {
     drawing::pix2tri_by_rasterization(
         pix2tri,
@@ -60,6 +61,7 @@ pub extern "C" fn paqelzim_pix2tri_by_rasterization(
         img_h,
         transform_world2ndc,
         first,
+        facing,
     )
 }
 

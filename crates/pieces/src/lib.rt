@@ -4,7 +4,7 @@
 use corners::Corner;
 use geometry::Projection;
 ghost use mathlib.Core.Path.{_≡_};
-ghost use mathlib.Core.Bool.{true};
+ghost use mathlib.Core.Bool.{Bool, true, false};
 ghost use Prim.Native.Nat.{ℕ, _/_, _<_};
 ghost use lib.ListN.{length};
 ghost use mathlib.Core.List.{List, _∷_, []};
@@ -13,80 +13,89 @@ ghost use Rattle.meshes.specs.Mesh.{faceAt};
 ghost use Rattle.meshes.specs.Sound.{SoundMesh};
 ghost use Rattle.rules.specs.Piece as rule;
 ghost use Rattle.rules.specs.Offers.{scene, facePieces};
+ghost use Rattle.rules.specs.declared.Facing.{Facing};
 ghost use Rattle.corners.specs.Answer.{cornerOf};
 ghost use Rattle.pieces.specs.Answer.{piecesOf, pieceOf};
+
+// The corners of a face that is cut, the one alone on its side of the near plane first, and whether they are so listed turned round.
+pub struct Lone {
+    pub lone: Corner,
+    pub a: Corner,
+    pub b: Corner,
+    pub turned: bool,
+}
 
 // The first corner of One is alone beyond the near plane, that of Two alone before it.
 pub enum Pieces {
     Nothing,
     Whole(Corner, Corner, Corner),
-    One(Corner, Corner, Corner),
-    Two(Corner, Corner, Corner),
+    One(Lone),
+    Two(Lone),
 }
 
 // The corners of the face whole.
 pub fn whole(a: Corner, b: Corner, c: Corner) -> [[f32; 3]; 3]
-    ensures { λ r. ⌜ pieceOf r ∷ [] ≡ rule.whole (cornerOf a) (cornerOf b) (cornerOf c) ⌝ }
+    ensures { λ r. ⌜ pieceOf false r ∷ [] ≡ rule.whole (cornerOf a) (cornerOf b) (cornerOf c) ⌝ }
 {
     [[a.x, a.y, a.z], [b.x, b.y, b.z], [c.x, c.y, c.z]]
 }
 
-// The corners of the one piece at a, which alone is beyond the near plane.
-pub fn one_piece(a: Corner, b: Corner, c: Corner) -> [[f32; 3]; 3]
-    ensures { λ r. ⌜ pieceOf r ∷ [] ≡ rule.onePiece (cornerOf a) (cornerOf b) (cornerOf c) ⌝ }
+// The corners of the one piece at the corner that alone is beyond the near plane.
+pub fn one_piece(l: Lone) -> [[f32; 3]; 3]
+    ensures { λ r. ⌜ pieceOf (l .turned) r ∷ [] ≡ rule.onePiece (l .turned) (cornerOf (l .lone)) (cornerOf (l .a)) (cornerOf (l .b)) ⌝ }
 {
-    let ab = corners::cut(a, b);
-    let ac = corners::cut(a, c);
+    let a = l.lone;
+    let ab = corners::cut(a, l.a);
+    let ac = corners::cut(a, l.b);
     [[a.x, a.y, a.z], [ab.x, ab.y, ab.z], [ac.x, ac.y, ac.z]]
 }
 
-// The corners of the first of two pieces, where c alone is before the near plane.
-pub fn first_piece(c: Corner, a: Corner, b: Corner) -> [[f32; 3]; 3]
-    ensures { λ r. ⌜ pieceOf r ≡ rule.firstPiece (cornerOf c) (cornerOf a) (cornerOf b) ⌝ }
+// The corners of the first of two pieces, where one corner alone is before the near plane.
+pub fn first_piece(l: Lone) -> [[f32; 3]; 3]
+    ensures { λ r. ⌜ pieceOf (l .turned) r ≡ rule.firstPiece (l .turned) (cornerOf (l .lone)) (cornerOf (l .a)) (cornerOf (l .b)) ⌝ }
 {
-    let ac = corners::cut(a, c);
+    let a = l.a;
+    let b = l.b;
+    let ac = corners::cut(a, l.lone);
     [[a.x, a.y, a.z], [b.x, b.y, b.z], [ac.x, ac.y, ac.z]]
 }
 
 // The corners of the second.
-pub fn second_piece(c: Corner, a: Corner, b: Corner) -> [[f32; 3]; 3]
-    ensures { λ r. ⌜ pieceOf r ≡ rule.secondPiece (cornerOf c) (cornerOf a) (cornerOf b) ⌝ }
+pub fn second_piece(l: Lone) -> [[f32; 3]; 3]
+    ensures { λ r. ⌜ pieceOf (l .turned) r ≡ rule.secondPiece (l .turned) (cornerOf (l .lone)) (cornerOf (l .a)) (cornerOf (l .b)) ⌝ }
 {
-    let bc = corners::cut(b, c);
-    let ac = corners::cut(a, c);
+    let b = l.b;
+    let bc = corners::cut(b, l.lone);
+    let ac = corners::cut(l.a, l.lone);
     [[b.x, b.y, b.z], [bc.x, bc.y, bc.z], [ac.x, ac.y, ac.z]]
 }
 
-// Three corners, of which the first is alone on its side of the near plane.
-struct Turned {
-    lone: Corner,
-    a: Corner,
-    b: Corner,
-}
-
-// v0 is alone where l0, else v1 where l1, else v2.
-fn lone_first(l0: bool, l1: bool, v0: Corner, v1: Corner, v2: Corner) -> Turned
-    ensures { λ r. ⌜ ((make : rule.Corner Float → rule.Corner Float → rule.Corner Float → List rule.Piece)
-        → make (cornerOf (r .lone)) (cornerOf (r .a)) (cornerOf (r .b)) ≡ rule.loneFirst l0 l1 make (cornerOf v0) (cornerOf v1) (cornerOf v2)) ⌝ }
+// v0 is alone where l0, else v1 where l1, else v2. With v1 first the corners are listed turned round.
+fn lone_first(l0: bool, l1: bool, v0: Corner, v1: Corner, v2: Corner) -> Lone
+    ensures { λ r. ⌜ ((make : Bool → rule.Corner Float → rule.Corner Float → rule.Corner Float → List rule.Piece)
+        → make (r .turned) (cornerOf (r .lone)) (cornerOf (r .a)) (cornerOf (r .b)) ≡ rule.loneFirst l0 l1 make (cornerOf v0) (cornerOf v1) (cornerOf v2)) ⌝ }
 {
     if l0 {
-        return Turned {
+        return Lone {
             lone: v0,
             a: v1,
             b: v2,
+            turned: false,
         };
     }
     if l1 {
-        return Turned {
+        return Lone {
             lone: v1,
             a: v0,
             b: v2,
+            turned: true,
         };
     }
-    Turned {
+    Lone {
         lone: v2,
         a: v0,
         b: v1,
+        turned: false,
     }
 }
 
@@ -98,29 +107,21 @@ fn mixed(v0: Corner, v1: Corner, v2: Corner) -> Pieces
     let b1 = corners::beyond_bit(v1);
     let b2 = corners::beyond_bit(v2);
     if b0 + b1 + b2 == 1 {
-        let t = lone_first(
+        return Pieces::One(lone_first(
             corners::beyond_near(v0),
             corners::beyond_near(v1),
             v0,
             v1,
             v2,
-        );
-        let lone = t.lone;
-        let a = t.a;
-        let b = t.b;
-        return Pieces::One(lone, a, b);
+        ));
     }
-    let t = lone_first(
+    Pieces::Two(lone_first(
         corners::before_near(v0),
         corners::before_near(v1),
         v0,
         v1,
         v2,
-    );
-    let lone = t.lone;
-    let a = t.a;
-    let b = t.b;
-    Pieces::Two(lone, a, b)
+    ))
 }
 
 fn clipped(v0: Corner, v1: Corner, v2: Corner) -> Pieces
@@ -180,16 +181,16 @@ pub fn charge(ps: Pieces) -> u32
     match ps {
         Pieces::Nothing => 0,
         Pieces::Whole(_, _, _) => 1,
-        Pieces::One(_, _, _) => 1,
-        Pieces::Two(_, _, _) => 2,
+        Pieces::One(_) => 1,
+        Pieces::Two(_) => 2,
     }
 }
 
-// The pieces of face number i, whatever the image's size. A face with an unprojectable corner is passed over.
+// The pieces of face number i, whatever the image's size and the facing. A face with an unprojectable corner is passed over.
 pub fn face_pieces(tri2vtx: &[u32], vtx2xyz: &[f32], m: &[f32; 16], i: usize) -> Pieces
     requires { ⌜ SoundMesh (now tri2vtx) (now vtx2xyz) ⌝ }
     requires { ⌜ i < length (now tri2vtx) / 3 ⌝ }
-    ensures { λ r. ⌜ ((w h : ℕ) → piecesOf r ≡ facePieces (scene (now (m .entry)) (now (vtx2xyz .entry)) w h) (faceAt (now (tri2vtx .entry)) i)) ⌝ }
+    ensures { λ r. ⌜ ((w h : ℕ) (facing : Facing) → piecesOf r ≡ facePieces (scene (now (m .entry)) (now (vtx2xyz .entry)) w h facing) (faceAt (now (tri2vtx .entry)) i)) ⌝ }
 {
     let at = 3 * i;
     let Projection::At(a) = meshes::corner(tri2vtx, vtx2xyz, m, at) else {

@@ -3,6 +3,7 @@
 use corners::Corner;
 use geometry::Projection;
 use pieces::Pieces;
+use rules::Facing;
 ghost use mathlib.Core.Path.{_≡_};
 ghost use Prim.Native.Nat.{_*_, _/_, _<_};
 ghost use lib.ListN.{length};
@@ -19,7 +20,8 @@ ghost use Rattle.rules.specs.Visits.{pieceCells, stoppedAfter};
 ghost use Rattle.pieces.specs.Answer.{pieceOf, piecesOf};
 ghost use Rattle.raster.specs.Face.{piecesCells};
 
-// The Rust's rasterize_projected_tri: one piece, off the image, or the scan of its box; stopped after n visits.
+// The Rust's rasterize_projected_tri: one piece, off the image, or the scan of its box; stopped after n visits. Whether its corners are listed turned round
+// stands beside the array.
 pub fn rasterize_projected_tri(
     pix2tri: &mut [u32],
     pix2depth: &mut [f32],
@@ -27,18 +29,21 @@ pub fn rasterize_projected_tri(
     h: usize,
     number: u32,
     ndc: [[f32; 3]; 3],
+    turned: bool,
     n: usize,
+    facing: Facing,
 )
     requires { ⌜ Sized 1 w h ⌝ }
     requires { ⌜ Spans (layer (now pix2tri) (now pix2depth)) (w * h) ⌝ }
-    ensures { λ _. ⌜ layer (now (pix2tri .exit)) (now (pix2depth .exit)) ≡ stoppedAfter n w h (pieceOf ndc) number (layer (now (pix2tri .entry)) (now (pix2depth .entry))) ⌝ }
+    ensures { λ _. ⌜ layer (now (pix2tri .exit)) (now (pix2depth .exit)) ≡ stoppedAfter n facing w h (pieceOf turned ndc) number (layer (now (pix2tri .entry)) (now (pix2depth .entry))) ⌝ }
 {
     if !boxes::meets_image(w, h, ndc) {
         return;
     }
     let s = boxes::screened(w, h, ndc);
     let b = boxes::box_of(w, h, s);
-    scan::visit_box(pix2tri, pix2depth, w, h, s, number, b, n);
+    let side = lanes::side_of(facing, turned);
+    scan::visit_box(pix2tri, pix2depth, w, h, s, side, number, b, n);
 }
 
 // One piece, whole: the scan may make as many visits as the largest image has pixels.
@@ -49,12 +54,24 @@ fn draw_piece(
     h: usize,
     number: u32,
     ndc: [[f32; 3]; 3],
+    turned: bool,
+    facing: Facing,
 )
     requires { ⌜ Sized 1 w h ⌝ }
     requires { ⌜ Spans (layer (now pix2tri) (now pix2depth)) (w * h) ⌝ }
-    ensures { λ _. ⌜ layer (now (pix2tri .exit)) (now (pix2depth .exit)) ≡ painted (pieceCells w h (pieceOf ndc) number) (w * h) (layer (now (pix2tri .entry)) (now (pix2depth .entry))) ⌝ }
+    ensures { λ _. ⌜ layer (now (pix2tri .exit)) (now (pix2depth .exit)) ≡ painted (pieceCells facing w h (pieceOf turned ndc) number) (w * h) (layer (now (pix2tri .entry)) (now (pix2depth .entry))) ⌝ }
 {
-    rasterize_projected_tri(pix2tri, pix2depth, w, h, number, ndc, 16_777_216);
+    rasterize_projected_tri(
+        pix2tri,
+        pix2depth,
+        w,
+        h,
+        number,
+        ndc,
+        turned,
+        16_777_216,
+        facing,
+    );
 }
 
 fn draw_pieces(
@@ -64,26 +81,27 @@ fn draw_pieces(
     h: usize,
     number: u32,
     ps: Pieces,
+    facing: Facing,
 )
     requires { ⌜ Sized 1 w h ⌝ }
     requires { ⌜ Spans (layer (now pix2tri) (now pix2depth)) (w * h) ⌝ }
-    ensures { λ _. ⌜ layer (now (pix2tri .exit)) (now (pix2depth .exit)) ≡ painted (piecesCells w h (piecesOf ps) number) (w * h) (layer (now (pix2tri .entry)) (now (pix2depth .entry))) ⌝ }
+    ensures { λ _. ⌜ layer (now (pix2tri .exit)) (now (pix2depth .exit)) ≡ painted (piecesCells facing w h (piecesOf ps) number) (w * h) (layer (now (pix2tri .entry)) (now (pix2depth .entry))) ⌝ }
 {
     match ps {
         Pieces::Nothing => {}
         Pieces::Whole(a, b, c) => {
             let t = pieces::whole(a, b, c);
-            draw_piece(pix2tri, pix2depth, w, h, number, t);
+            draw_piece(pix2tri, pix2depth, w, h, number, t, false, facing);
         }
-        Pieces::One(a, b, c) => {
-            let t = pieces::one_piece(a, b, c);
-            draw_piece(pix2tri, pix2depth, w, h, number, t);
+        Pieces::One(l) => {
+            let only = pieces::one_piece(l);
+            draw_piece(pix2tri, pix2depth, w, h, number, only, l.turned, facing);
         }
-        Pieces::Two(c, a, b) => {
-            let t = pieces::first_piece(c, a, b);
-            draw_piece(pix2tri, pix2depth, w, h, number, t);
-            let u = pieces::second_piece(c, a, b);
-            draw_piece(pix2tri, pix2depth, w, h, number, u);
+        Pieces::Two(l) => {
+            let first = pieces::first_piece(l);
+            draw_piece(pix2tri, pix2depth, w, h, number, first, l.turned, facing);
+            let second = pieces::second_piece(l);
+            draw_piece(pix2tri, pix2depth, w, h, number, second, l.turned, facing);
         }
     }
 }
@@ -99,18 +117,19 @@ fn draw_corners(
     v0: Corner,
     v1: Corner,
     v2: Corner,
+    facing: Facing,
 )
     requires { ⌜ Sized 1 w h ⌝ }
     requires { ⌜ Spans (layer (now pix2tri) (now pix2depth)) (w * h) ⌝ }
-    ensures { λ _. ⌜ layer (now (pix2tri .exit)) (now (pix2depth .exit)) ≡ painted (piecesCells w h (cornersPieces t11 (cornerOf v0) (cornerOf v1) (cornerOf v2)) number) (w * h) (layer (now (pix2tri .entry)) (now (pix2depth .entry))) ⌝ }
+    ensures { λ _. ⌜ layer (now (pix2tri .exit)) (now (pix2depth .exit)) ≡ painted (piecesCells facing w h (cornersPieces t11 (cornerOf v0) (cornerOf v1) (cornerOf v2)) number) (w * h) (layer (now (pix2tri .entry)) (now (pix2depth .entry))) ⌝ }
 {
     if pieces::stays_whole(t11, v0, v1, v2) {
         let t = pieces::whole(v0, v1, v2);
-        draw_piece(pix2tri, pix2depth, w, h, number, t);
+        draw_piece(pix2tri, pix2depth, w, h, number, t, false, facing);
         return;
     }
     let ps = pieces::clip(t11, v0, v1, v2);
-    draw_pieces(pix2tri, pix2depth, w, h, number, ps);
+    draw_pieces(pix2tri, pix2depth, w, h, number, ps, facing);
 }
 
 // Face number i of the mesh. One with an unprojectable corner is passed over.
@@ -124,12 +143,13 @@ pub fn draw_face(
     vtx2xyz: &[f32],
     m: &[f32; 16],
     i: usize,
+    facing: Facing,
 )
     requires { ⌜ Sized 1 w h ⌝ }
     requires { ⌜ Spans (layer (now pix2tri) (now pix2depth)) (w * h) ⌝ }
     requires { ⌜ SoundMesh (now tri2vtx) (now vtx2xyz) ⌝ }
     requires { ⌜ i < length (now tri2vtx) / 3 ⌝ }
-    ensures { λ _. ⌜ layer (now (pix2tri .exit)) (now (pix2depth .exit)) ≡ painted (piecesCells w h (facePieces (scene (now (m .entry)) (now (vtx2xyz .entry)) w h) (faceAt (now (tri2vtx .entry)) i)) number) (w * h) (layer (now (pix2tri .entry)) (now (pix2depth .entry))) ⌝ }
+    ensures { λ _. ⌜ layer (now (pix2tri .exit)) (now (pix2depth .exit)) ≡ painted (piecesCells facing w h (facePieces (scene (now (m .entry)) (now (vtx2xyz .entry)) w h facing) (faceAt (now (tri2vtx .entry)) i)) number) (w * h) (layer (now (pix2tri .entry)) (now (pix2depth .entry))) ⌝ }
 {
     let at = 3 * i;
     let Projection::At(a) = meshes::corner(tri2vtx, vtx2xyz, m, at) else {
@@ -145,5 +165,5 @@ pub fn draw_face(
     let v0 = corners::scored(t11, a);
     let v1 = corners::scored(t11, b);
     let v2 = corners::scored(t11, c);
-    draw_corners(pix2tri, pix2depth, w, h, number, t11, v0, v1, v2);
+    draw_corners(pix2tri, pix2depth, w, h, number, t11, v0, v1, v2, facing);
 }

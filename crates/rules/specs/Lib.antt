@@ -1,4 +1,4 @@
--- 01, "Drawing", as definitions: the pieces of a face, the scan, what a piece brings a pixel, the offers, drawing pixel by pixel; 02's load of a mesh, and its order of a scan.
+-- 01, "Drawing", as definitions: the pieces of a face, the scan, what a piece brings a pixel, the offers, drawing pixel by pixel; 02's facing, its load of a mesh, and its order of a scan.
 pub mod Piece
 pub mod Scan
 pub mod Offers

@@ -9,6 +9,7 @@ use Rattle.meshes.specs.Mesh.{Face, facesOf}
 use Rattle.rules.specs.Piece.{Piece}
 use Rattle.rules.specs.Scan.{screened, scans}
 use Rattle.rules.specs.Offers.{Scene, scene, facePieces}
+use Rattle.rules.specs.declared.Facing.the-variants.{All}
 
 -- what a face is charged: its pieces after clipping, none, one or two
 unfoldable pub charge : Scene → Face → ℕ
@@ -16,7 +17,7 @@ charge sc f = length (facePieces sc f)
 
 -- the pixels of the image that the scan of a piece holds
 unfoldable pub piecePixels : ℕ → ℕ → Piece → ℕ
-piecePixels w h t = count (λ p. scans (screened w h t) (p % w) (p / w)) (span 0 (w * h))
+piecePixels w h t = count (λ p. scans (screened w h (t .corners)) (p % w) (p / w)) (span 0 (w * h))
 
 -- those that the scans of a face's pieces offer, a pixel as often as it is offered
 unfoldable pub facePixels : Scene → Face → ℕ
@@ -41,6 +42,6 @@ loadCode tri xyz w h =
     ∷ ask 6 (allBelow (length xyz / 3) tri)
     ∷ [])
 
--- `drawing_load` answers the load of the faces; refused, it answers 0 for both.
+-- `drawing_load` answers the load of the faces; refused, it answers 0 for both. The load is that of every facing (Laws Load `load-facing`).
 unfoldable pub loading : List ℕ → List Float → ℕ → ℕ → List Float → Outcome Load
-loading tri xyz w h m = answer (loadCode tri xyz w h) (load 0 0) (loadOf (scene m xyz w h) (facesOf tri))
+loading tri xyz w h m = answer (loadCode tri xyz w h) (load 0 0) (loadOf (scene m xyz w h All) (facesOf tri))

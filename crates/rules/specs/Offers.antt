@@ -7,34 +7,36 @@ use Rattle.cells.specs.Cell.{Cell}
 use Rattle.offers.specs.Offers as any
 use Rattle.offers.specs.Offers.{numbered, offersOf, Greatest}
 use Rattle.meshes.specs.Mesh.{Face, vertexAt}
+use Rattle.rules.specs.declared.Facing.{Facing}
 use Rattle.rules.specs.Piece.{Piece, pieces}
-use Rattle.rules.specs.Scan.{screened, candidate}
+use Rattle.rules.specs.Scan.{screened, counts, candidate}
 
--- what a drawing is made from beside the faces: matrix, vertices, size
+-- what a drawing is made from beside the faces: matrix, vertices, size, facing
 pub record Scene : Type 0 where
   pub matrix : List Float
   pub vertices : List Float
   pub width : ℕ
   pub height : ℕ
+  pub facing : Facing
 
-abbrev pub scene : List Float → List Float → ℕ → ℕ → Scene
-scene m xyz w h = record { matrix = m; vertices = xyz; width = w; height = h }
+abbrev pub scene : List Float → List Float → ℕ → ℕ → Facing → Scene
+scene m xyz w h facing = record { matrix = m; vertices = xyz; width = w; height = h; facing = facing }
 
 unfoldable pub facePieces : Scene → Face → List Piece
 facePieces sc f =
     pieces (sc .matrix) (vertexAt (sc .vertices) (f .v0)) (vertexAt (sc .vertices) (f .v1)) (vertexAt (sc .vertices) (f .v2))
 
 -- what a piece brings pixel number p; pixels are numbered row by row
-unfoldable pub pieceBrings : ℕ → ℕ → Piece → ℕ → List Float
-pieceBrings w h t p = candidate (screened w h t) (p % w) (p / w)
+unfoldable pub pieceBrings : Facing → ℕ → ℕ → Piece → ℕ → List Float
+pieceBrings facing w h t p = candidate (counts facing (t .turned)) (screened w h (t .corners)) (p % w) (p / w)
 
-unfoldable pub piecesBring : ℕ → ℕ → List Piece → ℕ → List Float
-piecesBring w h [] p = []
-piecesBring w h (t ∷ ts) p = pieceBrings w h t p ++ piecesBring w h ts p
+unfoldable pub piecesBring : Facing → ℕ → ℕ → List Piece → ℕ → List Float
+piecesBring facing w h [] p = []
+piecesBring facing w h (t ∷ ts) p = pieceBrings facing w h t p ++ piecesBring facing w h ts p
 
 -- the depths that a face brings pixel p, its pieces in the Rust's order
 unfoldable pub brings : Scene → Face → ℕ → List Float
-brings sc f p = piecesBring (sc .width) (sc .height) (facePieces sc f) p
+brings sc f p = piecesBring (sc .facing) (sc .width) (sc .height) (facePieces sc f) p
 
 -- what the faces of the list bring pixel p, in list order, the first of them numbered k
 unfoldable pub brought : Scene → List Face → ℕ → ℕ → List Cell

@@ -1,6 +1,6 @@
 -- The pieces of a face: none, one or two, chosen as the Rust's branches choose, NaN included.
 use Prim.Native.Nat.{ℕ, _+_}
-use mathlib.Core.Bool.{Bool, _&&_, _||_, cond}
+use mathlib.Core.Bool.{Bool, true, false, _&&_, _||_, cond}
 use mathlib.Core.Option.{Option, none, some}
 use mathlib.Core.List.{List, [], _∷_}
 use lib.Dec.{eqb}
@@ -49,27 +49,31 @@ module _ {A : Type 0} (R : Arith A) where
   unfoldable pub cut : Corner A → Corner A → Vec3 A
   cut a b = interpHom a b (clipT a b)
 
--- a piece: three corners in normalised device coordinates
-abbrev pub Piece : Type 0
-Piece = Triangle (Vec3 Float)
+-- a piece: three corners in normalised device coordinates, and whether they are listed turned round (02, Point 8)
+pub record Piece : Type 0 where
+  pub corners : Triangle (Vec3 Float)
+  pub turned : Bool
+
+abbrev pub piece : Bool → Triangle (Vec3 Float) → Piece
+piece turned corners = record { corners = corners; turned = turned }
 
 -- the face whole
 unfoldable pub whole : Corner Float → Corner Float → Corner Float → List Piece
-whole a b c = triangle (a .p) (b .p) (c .p) ∷ []
+whole a b c = piece false (triangle (a .p) (b .p) (c .p)) ∷ []
 
 -- a alone is beyond the near plane: one piece
-unfoldable pub onePiece : Corner Float → Corner Float → Corner Float → List Piece
-onePiece a b c = triangle (a .p) (cut floats a b) (cut floats a c) ∷ []
+unfoldable pub onePiece : Bool → Corner Float → Corner Float → Corner Float → List Piece
+onePiece turned a b c = piece turned (triangle (a .p) (cut floats a b) (cut floats a c)) ∷ []
 
 -- c alone is before the near plane: two pieces
-unfoldable pub firstPiece : Corner Float → Corner Float → Corner Float → Piece
-firstPiece c a b = triangle (a .p) (b .p) (cut floats a c)
+unfoldable pub firstPiece : Bool → Corner Float → Corner Float → Corner Float → Piece
+firstPiece turned c a b = piece turned (triangle (a .p) (b .p) (cut floats a c))
 
-unfoldable pub secondPiece : Corner Float → Corner Float → Corner Float → Piece
-secondPiece c a b = triangle (b .p) (cut floats b c) (cut floats a c)
+unfoldable pub secondPiece : Bool → Corner Float → Corner Float → Corner Float → Piece
+secondPiece turned c a b = piece turned (triangle (b .p) (cut floats b c) (cut floats a c))
 
-unfoldable pub twoPieces : Corner Float → Corner Float → Corner Float → List Piece
-twoPieces c a b = firstPiece c a b ∷ secondPiece c a b ∷ []
+unfoldable pub twoPieces : Bool → Corner Float → Corner Float → Corner Float → List Piece
+twoPieces turned c a b = firstPiece turned c a b ∷ secondPiece turned c a b ∷ []
 
 -- at or beyond the near plane, and between the camera and it; neither where the score is NaN
 unfoldable pub beyondNear : Corner Float → Bool
@@ -87,9 +91,9 @@ allBeforeNear v0 v1 v2 = beforeNear v0 && (beforeNear v1 && beforeNear v2)
 unfoldable pub beyondBit : Corner Float → ℕ
 beyondBit v = cond (beyondNear v) 1 0
 
--- the lone corner first, in the Rust's order: v0 where l0, else v1 where l1, else v2
-unfoldable pub loneFirst : Bool → Bool → (Corner Float → Corner Float → Corner Float → List Piece) → Corner Float → Corner Float → Corner Float → List Piece
-loneFirst l0 l1 make v0 v1 v2 = cond l0 (make v0 v1 v2) (cond l1 (make v1 v0 v2) (make v2 v0 v1))
+-- the lone corner first, in the Rust's order: v0 where l0, else v1 where l1, else v2; the branch (1, 0, 2) lists the corners turned round
+unfoldable pub loneFirst : Bool → Bool → (Bool → Corner Float → Corner Float → Corner Float → List Piece) → Corner Float → Corner Float → Corner Float → List Piece
+loneFirst l0 l1 make v0 v1 v2 = cond l0 (make false v0 v1 v2) (cond l1 (make true v1 v0 v2) (make false v2 v0 v1))
 
 -- by how many corners are beyond: the lone one beyond gives one piece; else the one before gives two
 unfoldable pub mixed : Corner Float → Corner Float → Corner Float → List Piece

@@ -1,16 +1,17 @@
 -- The scan of a piece, and what the piece brings a pixel.
 use Prim.Native.Nat.{ℕ}
-use mathlib.Core.Bool.{Bool, _&&_, _||_, cond}
+use mathlib.Core.Bool.{Bool, true, false, _&&_, _||_, cond}
 use mathlib.Core.Option.{Option, none, some}
 use mathlib.Core.List.{List, [], _∷_}
 use lib.Ieee.{Float, binary32, ofBits, lt, le}
 use lib.Ieee.Scale.{finite}
 use Rattle.geometry.specs.Arith.{Arith, floats}
-use Rattle.geometry.specs.Vector.{Vec2, Vec3, vec3, flat, Weights, Triangle, triangle}
+use Rattle.geometry.specs.Vector.{Vec2, Vec3, vec3, flat, Weights, Weighed, Triangle, triangle}
 use Rattle.geometry.specs.Formula.{blend}
 use Rattle.geometry.specs.Leaf.{cornerWeights}
 use Rattle.pixels.specs.Pixel.{half, asFloat, pixel, centre, centreOf}
-use Rattle.rules.specs.Piece.{Piece}
+use Rattle.rules.specs.declared.Facing.{Facing}
+use Rattle.rules.specs.declared.Facing.the-variants.{All, Front}
 open Arith floats using (add as _⊕_, sub as _⊖_, mul as _⊗_, one)
 
 infixl 6 _⊕_
@@ -27,7 +28,8 @@ row h y = (one ⊖ y) ⊗ half ⊗ asFloat h
 unfoldable pub onScreen : ℕ → ℕ → Vec3 Float → Vec3 Float
 onScreen w h p = vec3 (column w (p .x)) (row h (p .y)) (p .z)
 
-unfoldable pub screened : ℕ → ℕ → Piece → Triangle (Vec3 Float)
+-- three corners in pixels
+unfoldable pub screened : ℕ → ℕ → Triangle (Vec3 Float) → Triangle (Vec3 Float)
 screened w h t = triangle (onScreen w h (t .p0)) (onScreen w h (t .p1)) (onScreen w h (t .p2))
 
 -- the centre (ix+0.5, iy+0.5)
@@ -83,14 +85,22 @@ dropped b = lt (b .b0) dropBelow || (lt (b .b1) dropBelow || lt (b .b2) dropBelo
 unfoldable pub kept : Triangle (Vec3 Float) → Weights Float → List Float
 kept s b = cond (dropped b) [] (blend floats b (s .p0 .z) (s .p1 .z) (s .p2 .z) ∷ [])
 
-unfoldable pub weighedDepth : Triangle (Vec3 Float) → Option (Weights Float) → List Float
-weighedDepth s none = []
-weighedDepth s (some b) = kept s b
+-- 02, Point 8: whether the facing counts a candidate whose sum is s, of a piece whose corners are listed turned round or not. With all faces it does; with
+-- front pieces only where s is above 0 or, turned round, below 0.
+unfoldable pub counts : Facing → Bool → Float → Bool
+counts All turned s = true
+counts Front false s = lt (floats .zero) s
+counts Front true s = lt s (floats .zero)
+
+-- A point without weights has no depth, and a candidate whose sum is not counted offers none.
+unfoldable pub weighedDepth : (Float → Bool) → Triangle (Vec3 Float) → Option (Weighed Float) → List Float
+weighedDepth counted s none = []
+weighedDepth counted s (some a) = cond (counted (a .s)) (kept s (a .b)) []
 
 -- the depth that a piece on the screen has at the point q, or none
-unfoldable pub depthAt : Triangle (Vec3 Float) → Vec2 Float → List Float
-depthAt s q = weighedDepth s (cornerWeights q (flat (s .p0)) (flat (s .p1)) (flat (s .p2)))
+unfoldable pub depthAt : (Float → Bool) → Triangle (Vec3 Float) → Vec2 Float → List Float
+depthAt counted s q = weighedDepth counted s (cornerWeights q (flat (s .p0)) (flat (s .p1)) (flat (s .p2)))
 
 -- what the piece brings the pixel (ix, iy): at most one depth
-unfoldable pub candidate : Triangle (Vec3 Float) → ℕ → ℕ → List Float
-candidate s ix iy = cond (scans s ix iy) (depthAt s (centreAt ix iy)) []
+unfoldable pub candidate : (Float → Bool) → Triangle (Vec3 Float) → ℕ → ℕ → List Float
+candidate counted s ix iy = cond (scans s ix iy) (depthAt counted s (centreAt ix iy)) []

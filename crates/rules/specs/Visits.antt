@@ -11,6 +11,7 @@ use Rattle.cells.specs.Cell.{Cell}
 use Rattle.cells.specs.Layer.{Layer, at}
 use Rattle.cells.specs.Steps.{written}
 use Rattle.pixels.specs.Pixel.{pixel, numberIn}
+use Rattle.rules.specs.declared.Facing.{Facing}
 use Rattle.rules.specs.Piece.{Piece}
 use Rattle.rules.specs.Scan.{screened, scans}
 use Rattle.rules.specs.Offers.{pieceBrings}
@@ -33,10 +34,10 @@ visited os [] l = l
 visited os (p ∷ ps) l = visited os ps (written l p (offered (at l p) (os p)))
 
 -- what a piece, numbered k, brings pixel p
-unfoldable pub pieceCells : ℕ → ℕ → Piece → ℕ → ℕ → List Cell
-pieceCells w h t k p = numbered k (pieceBrings w h t p)
+unfoldable pub pieceCells : Facing → ℕ → ℕ → Piece → ℕ → ℕ → List Cell
+pieceCells facing w h t k p = numbered k (pieceBrings facing w h t p)
 
 -- what the scan of a piece, numbered k, has left in the layer when it is stopped after n visits: what the first n pixels bring.
 -- A visit that brings nothing is a visit.
-unfoldable pub stoppedAfter : ℕ → ℕ → ℕ → Piece → ℕ → Layer → Layer
-stoppedAfter n w h t k l = visited (pieceCells w h t k) (take n (visits w h (screened w h t))) l
+unfoldable pub stoppedAfter : ℕ → Facing → ℕ → ℕ → Piece → ℕ → Layer → Layer
+stoppedAfter n facing w h t k l = visited (pieceCells facing w h t k) (take n (visits w h (screened w h (t .corners)))) l

@@ -2,6 +2,7 @@
 
 use boxes::Box;
 use boxes::Screen;
+use lanes::Side;
 ghost use mathlib.Core.Path.{_≡_};
 ghost use Prim.Native.Nat.{ℕ, _+_, _*_, _≤_, _<_};
 ghost use lib.ListN.{take};
@@ -11,6 +12,7 @@ ghost use Rattle.cells.specs.Steps.{Spans};
 ghost use Rattle.rules.specs.Visits.{visited};
 ghost use Rattle.boxes.specs.Answer.{screenOf};
 ghost use Rattle.boxes.specs.Box.{Within};
+ghost use Rattle.lanes.specs.Answer.{within};
 ghost use Rattle.blocks.specs.Rows.{depthCells, rowsDown, upTo};
 ghost use Rattle.scan.specs.Columns.{boxVisits, Allowed};
 
@@ -21,6 +23,7 @@ fn visit_rows(
     w: usize,
     h: usize,
     s: Screen,
+    side: Side,
     number: u32,
     ix: usize,
     y0: usize,
@@ -31,11 +34,11 @@ fn visit_rows(
     requires { ⌜ ix < w ⌝ }
     requires { ⌜ Within y0 y1 h ⌝ }
     ensures { λ _. ⌜ layer (now (pix2tri .exit)) (now (pix2depth .exit))
-        ≡ visited (depthCells (screenOf s) number w) (rowsDown w ix y0 y1) (layer (now (pix2tri .entry)) (now (pix2depth .entry))) ⌝ }
+        ≡ visited (depthCells (within side) (screenOf s) number w) (rowsDown w ix y0 y1) (layer (now (pix2tri .entry)) (now (pix2depth .entry))) ⌝ }
 {
     let mut iy = y0;
     while iy < y1 {
-        blocks::visit(pix2tri, pix2depth, w, h, s, number, ix, iy);
+        blocks::visit(pix2tri, pix2depth, w, h, s, side, number, ix, iy);
         iy += 1;
     }
 }
@@ -67,6 +70,7 @@ fn visit_blocks(
     w: usize,
     h: usize,
     s: Screen,
+    side: Side,
     number: u32,
     ix: usize,
     y0: usize,
@@ -77,14 +81,27 @@ fn visit_blocks(
     requires { ⌜ ix < w ⌝ }
     requires { ⌜ Within y0 y1 h ⌝ }
     ensures { λ r. ⌜ (y0 ≤ r) × (layer (now (pix2tri .exit)) (now (pix2depth .exit))
-        ≡ visited (depthCells (screenOf s) number w) (rowsDown w ix y0 (upTo y1 r)) (layer (now (pix2tri .entry)) (now (pix2depth .entry)))) ⌝ }
+        ≡ visited (depthCells (within side) (screenOf s) number w) (rowsDown w ix y0 (upTo y1 r)) (layer (now (pix2tri .entry)) (now (pix2depth .entry)))) ⌝ }
 {
     let end = blocks_end(y0, y1, h);
     let qx = pixels::centre(ix);
     let mut iy = y0;
     let mut qy = pixels::centre(y0);
     while iy < end {
-        blocks::visit_four(pix2tri, pix2depth, w, h, s, number, ix, iy, y1, qx, qy);
+        blocks::visit_four(
+            pix2tri,
+            pix2depth,
+            w,
+            h,
+            s,
+            side,
+            number,
+            ix,
+            iy,
+            y1,
+            qx,
+            qy,
+        );
         iy += 4;
         qy += 4.0;
     }
@@ -98,6 +115,7 @@ fn visit_column(
     w: usize,
     h: usize,
     s: Screen,
+    side: Side,
     number: u32,
     ix: usize,
     y0: usize,
@@ -108,11 +126,11 @@ fn visit_column(
     requires { ⌜ ix < w ⌝ }
     requires { ⌜ Within y0 y1 h ⌝ }
     ensures { λ _. ⌜ layer (now (pix2tri .exit)) (now (pix2depth .exit))
-        ≡ visited (depthCells (screenOf s) number w) (rowsDown w ix y0 y1) (layer (now (pix2tri .entry)) (now (pix2depth .entry))) ⌝ }
+        ≡ visited (depthCells (within side) (screenOf s) number w) (rowsDown w ix y0 y1) (layer (now (pix2tri .entry)) (now (pix2depth .entry))) ⌝ }
 {
-    let left = visit_blocks(pix2tri, pix2depth, w, h, s, number, ix, y0, y1);
+    let left = visit_blocks(pix2tri, pix2depth, w, h, s, side, number, ix, y0, y1);
     if left < y1 {
-        visit_rows(pix2tri, pix2depth, w, h, s, number, ix, left, y1);
+        visit_rows(pix2tri, pix2depth, w, h, s, side, number, ix, left, y1);
     }
 }
 
@@ -133,6 +151,7 @@ pub fn visit_box(
     w: usize,
     h: usize,
     s: Screen,
+    side: Side,
     number: u32,
     b: Box,
     n: usize,
@@ -142,14 +161,25 @@ pub fn visit_box(
     requires { ⌜ Within (b .x0) (b .x1) w ⌝ }
     requires { ⌜ Within (b .y0) (b .y1) h ⌝ }
     ensures { λ _. ⌜ layer (now (pix2tri .exit)) (now (pix2depth .exit))
-        ≡ visited (depthCells (screenOf s) number w) (take n (boxVisits w b)) (layer (now (pix2tri .entry)) (now (pix2depth .entry))) ⌝ }
+        ≡ visited (depthCells (within side) (screenOf s) number w) (take n (boxVisits w b)) (layer (now (pix2tri .entry)) (now (pix2depth .entry))) ⌝ }
 {
     let rows = b.y1 - b.y0;
     let mut left = n;
     let mut ix = b.x0;
     while ix < b.x1 {
         let some = allowed(left, rows);
-        visit_column(pix2tri, pix2depth, w, h, s, number, ix, b.y0, b.y0 + some);
+        visit_column(
+            pix2tri,
+            pix2depth,
+            w,
+            h,
+            s,
+            side,
+            number,
+            ix,
+            b.y0,
+            b.y0 + some,
+        );
         left -= some;
         ix += 1;
     }

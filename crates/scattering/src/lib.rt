@@ -10,9 +10,9 @@ ghost use Rattle.meshes.specs.Sums.{summed};
 ghost use Rattle.meshes.specs.Sound.{SoundMesh};
 ghost use Rattle.tris.specs.Answer.{cornersIn, projectedIn};
 ghost use Rattle.scattering.specs.Scattering.{toVertex, toFace, given};
-use geometry::CornerWeights;
 use geometry::Vec2;
 use geometry::Vec3;
+use geometry::Weights;
 use tris::Tri;
 
 // b times g to the coordinates of vertex v.
@@ -45,7 +45,7 @@ pub fn scatter(sums: &mut [f32], tri2vtx: &[u32], m: &[f32; 16], i: usize, t: Tr
     ensures { λ r. ⌜ now (sums .exit)
         ≡ summed (now (sums .entry)) (given (now (m .entry)) (faceAt (now (tri2vtx .entry)) i) (cornersIn t) (projectedIn t) (point2 q) (point3 g)) ⌝ }
 {
-    let CornerWeights::Three(b0, b1, b2) = tris::barycentric_world(t, q) else {
+    let Weights::Three(b0, b1, b2) = tris::barycentric_world(t, q) else {
         return;
     };
     let x = tris::world_pos(t, b0, b1, b2);

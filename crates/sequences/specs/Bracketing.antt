@@ -15,9 +15,9 @@ use Rattle.cells.specs.Steps.{Spans}
 use Rattle.layers.specs.Calls.{clearCode, clearing, joinCode, joining}
 use Rattle.cells.specs.Laws.Pixels.{spans-pixelwise}
 use Rattle.meshes.specs.Mesh.{Face, facesOf}
-use Rattle.rules.specs.Offers.{Scene, brought}
+use Rattle.rules.specs.Offers.{Scene, scene, brought}
 use Rattle.rules.specs.Draw.{drawn}
-use Rattle.rules.specs.Calls.{drawCode, draws}
+use Rattle.rules.specs.Calls.{drawCode, facingOf, draws}
 use Rattle.rules.specs.Laws.Paint.{spans-painted}
 use Rattle.sequences.specs.Calls.{Store, layerOf, Call, written, whole, outcomeOf, after}
 use Rattle.sequences.specs.Plan as plan
@@ -34,10 +34,10 @@ unfoldable pub runCount : Bracketing → ℕ
 runCount one = 1
 runCount (pair a b) = runCount a + runCount b
 
-module _ (sc : Scene) (rs : List (List Face)) where
+module _ (sc : Scene) (facing : ℕ) (rs : List (List Face)) where
   -- the calls of a bracketing of the runs from r on, run i in layer i, and then `rest`
   unfoldable pub callsFrom : Bracketing → ℕ → List Call → List Call
-  callsFrom one r rest = clearOf sc rs r ∷ drawOf sc rs r r ∷ rest
+  callsFrom one r rest = clearOf sc rs r ∷ drawOf sc rs facing r r ∷ rest
   callsFrom (pair a b) r rest = callsFrom a r (callsFrom b (r + runCount a) (joinOf sc rs r (r + runCount a) ∷ rest))
 
 run-count-pos : (t : Bracketing) → 0 < runCount t
@@ -45,7 +45,7 @@ unfolding runCount
 run-count-pos one = omega arith
 run-count-pos (pair a b) = omega (arith, run-count-pos a)
 
-module _ (sc : Scene) (rs : List (List Face)) where
+module _ (sc : Scene) (facing : ℕ) (named : facingOf facing ≡ sc .facing) (rs : List (List Face)) where
   -- ---- lengths stay
 
   Sized : Store → Type 0
@@ -71,11 +71,11 @@ module _ (sc : Scene) (rs : List (List Face)) where
     unfolding Sized clearing
     clear-sized = stay-sized s (clearOf sc rs i) i refl (answer-spans _ (clearCode (layerOf s i) (sc .width) (sc .height)) _ _ (sized i l) (spans-pixelwise (pixelCount sc) (λ p. cell.clear))) sized
 
-    draw-sized : (r : ℕ) → Sized (after s (drawOf sc rs r i))
+    draw-sized : (r : ℕ) → Sized (after s (drawOf sc rs facing r i))
     unfolding Sized draws drawn
     draw-sized r =
-        stay-sized s (drawOf sc rs r i) i refl
-        (answer-spans _ (drawCode (layerOf s i) (flat (run sc rs r)) (sc .vertices) (sc .width) (sc .height) (firstOf sc rs r)) _ _ (sized i l) (spans-painted (brought sc (facesOf (flat (run sc rs r))) (firstOf sc rs r)) (pixelCount sc) (layerOf s i)))
+        stay-sized s (drawOf sc rs facing r i) i refl
+        (answer-spans _ (drawCode (layerOf s i) (flat (run sc rs r)) (sc .vertices) (sc .width) (sc .height) (firstOf sc rs r)) _ _ (sized i l) (spans-painted (brought (scene (sc .matrix) (sc .vertices) (sc .width) (sc .height) (facingOf facing)) (facesOf (flat (run sc rs r))) (firstOf sc rs r)) (pixelCount sc) (layerOf s i)))
         sized
 
     join-sized : (j : ℕ) → Sized (after s (joinOf sc rs i j))
@@ -100,17 +100,17 @@ module _ (sc : Scene) (rs : List (List Face)) where
   -- the calls of a bracketing of the runs from r on finish where `rest` does, once layer r stands for them and the layers below r are as they were
   planned : (t : Bracketing) (r : ℕ) (g : ℕ → Stands) (s : Store) (rest : List Call) → r + runCount t ≤ length rs → Sized s
       → ((g' : ℕ → Stands) (s' : Store) → Sized s' → g' r ≡ runs r (runCount t) → ((j : ℕ) → j < r → g' j ≡ g j) → Finishes g' s' rest)
-      → Finishes g s (callsFrom sc rs t r rest)
+      → Finishes g s (callsFrom sc facing rs t r rest)
   unfolding callsFrom runCount Finishes Sized
   planned one r g s rest l sized continue =
       let l' : r < length rs = omega arith in
       let s1 = after s (clearOf sc rs r) in
       let sized1 = clear-sized s sized r l' in
-      let done = continue (changedAt (changedAt g r blank) r (runs r 1)) (after s1 (drawOf sc rs r r)) (draw-sized s1 sized1 r l' r) (this-changed (changedAt g r blank) r (runs r 1))
+      let done = continue (changedAt (changedAt g r blank) r (runs r 1)) (after s1 (drawOf sc rs facing r r)) (draw-sized s1 sized1 r l' r) (this-changed (changedAt g r blank) r (runs r 1))
       (λ j h. other-changed (changedAt g r blank) r (runs r 1) j (λ e. omega arith) ∙ other-changed g r blank j (λ e. omega arith)) in
-      (done .0, clears r (sized r l') (plan.draws r r l' (this-changed g r blank) (done .1)), done .2)
+      (done .0, clears r (sized r l') (plan.draws facing r r named l' (this-changed g r blank) (done .1)), done .2)
   planned (pair a b) r g s rest l sized continue =
-      planned a r g s (callsFrom sc rs b (r + runCount a) (joinOf sc rs r (r + runCount a) ∷ rest)) (omega arith) sized
+      planned a r g s (callsFrom sc facing rs b (r + runCount a) (joinOf sc rs r (r + runCount a) ∷ rest)) (omega arith) sized
       (λ g1 s1 sized1 is1 below1.
       planned b (r + runCount a) g1 s1 (joinOf sc rs r (r + runCount a) ∷ rest) (omega arith) sized1
       (λ g2 s2 sized2 is2 below2.
@@ -125,13 +125,13 @@ module _ (sc : Scene) (rs : List (List Face)) where
 
 -- all of them
 abbrev pub bracketed : Cut → Bracketing → List Call
-bracketed m t = callsFrom (m .sc) (m .rs) t 0 []
+bracketed m t = callsFrom (m .sc) (m .facing) (m .rs) t 0 []
 
 -- Every bracketing has a plan: of all runs of any cut, from layers that hold anything of the image's lengths.
 pub every-bracketing : (m : Cut) (t : Bracketing) → runCount t ≡ length (m .rs) → (start : Store) → ((i : ℕ) → i < length (m .rs) → Spans (layerOf start i) (pixelCount (m .sc)))
     → Planned m start (bracketed m t)
 unfolding Finishes Sized
 every-bracketing m t e start sized =
-    let done = planned (m .sc) (m .rs) t 0 (λ i. nothing) start [] (omega arith) sized
+    let done = planned (m .sc) (m .facing) (m .named) (m .rs) t 0 (λ i. nothing) start [] (omega arith) sized
     (λ g s h is below. (g, over, is ∙ ap (runs 0) e)) in
     record { stands = done .0; keeps = done .1; last = 0; remaining = done .2 }

@@ -44,19 +44,19 @@ whole i = record { map = held i; depth = held i }
 
 pub data Call : Type 0 where
   clear : LentLayer → ℕ → ℕ → Call
-  draw : LentLayer → List ℕ → List Float → ℕ → ℕ → List Float → ℕ → Call
+  draw : LentLayer → List ℕ → List Float → ℕ → ℕ → List Float → ℕ → ℕ → Call
   join : LentLayer → LentLayer → ℕ → ℕ → Call
 
 -- the layer that a call may write
 abbrev pub written : Call → LentLayer
 written (clear l w h) = l
-written (draw l tri xyz w h m first) = l
+written (draw l tri xyz w h m first facing) = l
 written (join l r w h) = l
 
 -- what a call does, as the contracts of `clear`, `pix2tri_by_rasterization` and `join` have it
 abbrev pub outcomeOf : Store → Call → Outcome Layer
 outcomeOf s (clear l w h) = clearing (lentLayer s l) w h
-outcomeOf s (draw l tri xyz w h m first) = draws (lentLayer s l) tri xyz w h m first
+outcomeOf s (draw l tri xyz w h m first facing) = draws (lentLayer s l) tri xyz w h m first facing
 outcomeOf s (join l r w h) = joining (lentLayer s l) (lentLayer s r) w h
 
 -- "Each finds the layers as the calls before left them"

@@ -12,7 +12,7 @@ use Rattle.cells.specs.Layer.{Layer, at}
 use Rattle.cells.specs.Steps.{Spans}
 use Rattle.meshes.specs.Mesh.{Face, facesOf}
 use Rattle.rules.specs.Offers.{Scene, brought, offers}
-use Rattle.rules.specs.Calls.{drawCode, draws}
+use Rattle.rules.specs.Calls.{drawCode, facingOf, draws}
 use Rattle.sequences.specs.Calls.{Store, layerOf, Call, afterAll}
 use Rattle.sequences.specs.Plan.{joined, Stands, nothing, runs, Keeps, Accepted}
 use Rattle.sequences.specs.Whole.{pixelCount, cleared, fresh, fresh-at, fresh-spans, remains}
@@ -25,6 +25,9 @@ pub record Cut : Type 0 where
   pub tri2vtx : List ℕ
   pub sc : Scene
   pub accepted : drawCode (cleared (pixelCount sc)) tri2vtx (sc .vertices) (sc .width) (sc .height) 0 ≡ 0
+  -- 02, Point 8: the number by which the whole drawing names the scene's facing
+  pub facing : ℕ
+  pub named : facingOf facing ≡ sc .facing
   -- "of the faces that hold no pixel, none, some or all are taken out"
   pub keep : ℕ → Bool
   pub idle : Idle sc (facesOf tri2vtx) keep
@@ -53,7 +56,7 @@ keptFaces m = keptFrom (m .keep) 0 (faces m)
 
 -- the full drawing
 abbrev pub full : Cut → Layer
-full m = draws (cleared (pixelCount (m .sc))) (m .tri2vtx) (m .sc .vertices) (m .sc .width) (m .sc .height) (m .sc .matrix) 0 .left
+full m = draws (cleared (pixelCount (m .sc))) (m .tri2vtx) (m .sc .vertices) (m .sc .width) (m .sc .height) (m .sc .matrix) 0 (m .facing) .left
 
 -- the layer that remains
 abbrev pub final : Case → Layer
@@ -78,7 +81,7 @@ module _ (m : Cut) where
 
   pub full-is : full m ≡ fresh (m .sc) (faces m) 0
   unfolding draws fresh
-  full-is = rw (m .accepted)
+  full-is = rw (m .accepted, m .named)
 
   shows-of : (fs : List Face) (l : Layer) → l ≡ fresh (m .sc) fs 0 → (p : ℕ) → p < pixelCount (m .sc) → Shows empty (offers (m .sc) fs 0 p) (at l p)
   unfolding offers

@@ -9,14 +9,14 @@ use Rattle.offers.specs.Offers as any
 use Rattle.offers.specs.Offers.{numbered}
 use Rattle.cells.specs.Layer.{Layer, layer}
 use Rattle.geometry.specs.Formula.{cross2, areas, total, overTotal, blend, row, over}
-use Rattle.geometry.specs.Leaf.{weighed, weighedAll, cornerWeights, divided, project}
+use Rattle.geometry.specs.Leaf.{weighed, weighedAll, withSum, weighedWithSum, cornerWeights, divided, project}
 use Rattle.meshes.specs.Mesh.{facesOf, vertexAt}
 use Rattle.pixels.specs.Pixel.{centre, centreOf}
 use Rattle.rules.specs.Piece.{scored, whole, behind, anyBehind, cornersPieces, projectedPieces, pieces}
-use Rattle.rules.specs.Scan.{onScreen, screened, lower, upper, least, greatest, spans, between, inClosedBox, finiteInPixels, scans, dropped, kept, weighedDepth, depthAt, candidate}
+use Rattle.rules.specs.Scan.{onScreen, screened, lower, upper, least, greatest, spans, between, inClosedBox, finiteInPixels, scans, dropped, kept, counts, weighedDepth, depthAt, candidate}
 use Rattle.rules.specs.Offers.{facePieces, pieceBrings, piecesBring, brings, brought}
 use Rattle.rules.specs.Draw.{painted, drawn}
-use Rattle.rules.specs.Calls.{drawCode, draws}
+use Rattle.rules.specs.Calls.{drawCode, facingOf, draws}
 
 -- 0, 1, −1, 3, 0.25 and 0.5
 abbrev pub zero : Float
@@ -52,7 +52,11 @@ four x = x ∷ x ∷ x ∷ x ∷ []
 abbrev pub blank : Layer
 blank = layer (four empty) (four lowest)
 
--- the faces `tri` drawn from number 0
-unfoldable pub drawing : Layer → List ℕ → List Float → Float → Float → Outcome Layer
-unfolding firstNo sizes groups numbers every exact offered pick exceeds tabulate numbered any.brought facesOf vertexAt cross2 areas total overTotal blend row over weighed weighedAll cornerWeights divided project scored whole behind anyBehind cornersPieces projectedPieces pieces onScreen screened centre centreOf lower upper least greatest spans between inClosedBox finiteInPixels scans dropped kept weighedDepth depthAt candidate facePieces pieceBrings piecesBring brings brought painted drawn drawCode draws add sub mul div neg lt le eq ofBits ofInt
-drawing l tri xyz m11 m15 = draws l tri xyz 2 2 (matrix m11 m15) 0
+-- the faces `tri` drawn from number 0, with that facing
+unfoldable pub faced : ℕ → Layer → List ℕ → List Float → Float → Float → Outcome Layer
+unfolding firstNo sizes groups numbers every exact offered pick exceeds tabulate numbered any.brought facesOf vertexAt cross2 areas total overTotal blend row over weighed weighedAll withSum weighedWithSum cornerWeights divided project scored whole behind anyBehind cornersPieces projectedPieces pieces onScreen screened centre centreOf lower upper least greatest spans between inClosedBox finiteInPixels scans dropped kept counts weighedDepth depthAt candidate facePieces pieceBrings piecesBring brings brought painted drawn drawCode facingOf draws add sub mul div neg lt le eq ofBits ofInt
+faced facing l tri xyz m11 m15 = draws l tri xyz 2 2 (matrix m11 m15) 0 facing
+
+-- all of them
+abbrev pub drawing : Layer → List ℕ → List Float → Float → Float → Outcome Layer
+drawing = faced 0

@@ -15,18 +15,19 @@ use Rattle.offers.specs.Laws.Removal.{with-greatest}
 use Rattle.cells.specs.Cell.{Cell}
 use Rattle.layers.specs.Calls.{clearing, clearCode, joining, joinCode}
 use Rattle.meshes.specs.Mesh.{Face, face, facesOf}
+use Rattle.rules.specs.declared.Facing.the-variants.{All}
 use Rattle.rules.specs.Offers.{Scene, scene, brought, offers, Holds}
-use Rattle.rules.specs.Calls.{draws}
+use Rattle.rules.specs.Calls.{facingOf, draws}
 use Rattle.sequences.specs.Calls.{Store, Call, clear, draw, join, held, other, whole, after, afterAll}
 use Rattle.sequences.specs.Plan as plan
 use Rattle.sequences.specs.Plan.{flat, joined, Stands, nothing, runs, changedAt, Keeps, over, clears, joins, refused, clearOf, drawOf, joinOf}
 use Rattle.sequences.specs.Case.{Cut, Case}
 use Rattle.sequences.specs.Example as example
-use Rattle.sequences.specs.Example.{matrix, corners, quarter, half, four, drawing}
+use Rattle.sequences.specs.Example.{matrix, corners, quarter, half, four, faced}
 
 -- T(0.25), T(0.5), T(0.25), T(0.5): face 1 holds every pixel, face 3 ties with it
 abbrev sc : Scene
-sc = scene (matrix example.zero example.one) (corners quarter ++ corners half) 2 2
+sc = scene (matrix example.zero example.one) (corners quarter ++ corners half) 2 2 All
 
 abbrev back : Face
 back = face 0 1 2
@@ -41,7 +42,7 @@ fs : List Face
 fs = back ∷ front ∷ back ∷ front ∷ []
 
 -- face 0 is taken out
-abbrev keep : ℕ → Bool
+abbrev pub keep : ℕ → Bool
 keep k = not (eqb k 0)
 
 -- the first run, one in the middle and the last are empty
@@ -49,28 +50,29 @@ abbrev rs : List (List Face)
 rs = [] ∷ (front ∷ []) ∷ [] ∷ (back ∷ front ∷ []) ∷ [] ∷ []
 
 shown : (p : ℕ) → p < 4 → won empty (brought sc fs 0 p) .payload ≡ 1
-unfolding drawing fs
+unfolding faced fs
 shown zero h = refl
 shown (suc zero) h = refl
 shown (suc (suc zero)) h = refl
 shown (suc (suc (suc zero))) h = refl
 shown (suc (suc (suc (suc p)))) h = absurd (omega arith)
 
-idle : (i : ℕ) → i < 4 → T (not (keep i)) → (p : ℕ) → p < 4 → Holds sc fs i p → ⊥
+-- where face 1 is shown, face 0 holds no pixel
+pub not-held : (sc : Scene) (fs : List Face) (n : ℕ) → ((p : ℕ) → p < n → won empty (brought sc fs 0 p) .payload ≡ 1) → (i : ℕ) → T (not (keep i)) → (p : ℕ) → p < n → Holds sc fs i p → ⊥
 unfolding Holds offers
-idle i l t p h holds =
+not-held sc fs n shown i t p h holds =
     let e : i ≡ 0 = eqb→eq i 0 (twice (eqb i 0) t) in
     let w = with-greatest (first-of-greatest empty (brought sc fs 0 p)) (holds .1) in
-    let n : holds .0 .payload ≡ 1 = ap (λ (c : Cell). c .payload) (sym w) ∙ shown p h in
-    omega (arith, n, holds .2, e)
+    let one : holds .0 .payload ≡ 1 = ap (λ (c : Cell). c .payload) (sym w) ∙ shown p h in
+    omega (arith, one, holds .2, e)
   where
     twice : (b : Bool) → T (not (not b)) → T b
     twice true t = t
     twice false t = t
 
 pub mesh : Cut
-unfolding drawing fs joined keptFrom facesOf
-mesh = record { tri2vtx = tri2vtx; sc = sc; accepted = refl; keep = keep; idle = idle; rs = rs; cut = refl }
+unfolding faced fs joined keptFrom facesOf
+mesh = record { tri2vtx = tri2vtx; sc = sc; accepted = refl; facing = 0; named = refl; keep = keep; idle = λ i l. not-held sc fs 4 shown i; rs = rs; cut = refl }
 
 -- layers of anything; layer 5 has depths of another length
 abbrev start : Store
@@ -84,25 +86,25 @@ abbrev mixed : Call
 mixed = clear (record { map = held 0; depth = held 5 }) 2 2
 
 abbrev foreign : Call
-foreign = draw (record { map = other (1 ∷ []); depth = other [] }) tri2vtx (sc .vertices) 2 2 (sc .matrix) 0
+foreign = draw (record { map = other (1 ∷ []); depth = other [] }) tri2vtx (sc .vertices) 2 2 (sc .matrix) 0 0
 
 -- runs 3, 0 and 4 drawn, 3 joined with 4, then 1 and 2 drawn
 abbrev made : List Call
 made =
     clearOf sc rs 3
-    ∷ drawOf sc rs 3 3
+    ∷ drawOf sc rs 0 3 3
     ∷ clearOf sc rs 0
     ∷ ofItself
-    ∷ drawOf sc rs 0 0
+    ∷ drawOf sc rs 0 0 0
     ∷ clearOf sc rs 4
     ∷ mixed
-    ∷ drawOf sc rs 4 4
+    ∷ drawOf sc rs 0 4 4
     ∷ joinOf sc rs 3 4
     ∷ clearOf sc rs 1
-    ∷ drawOf sc rs 1 1
+    ∷ drawOf sc rs 0 1 1
     ∷ foreign
     ∷ clearOf sc rs 2
-    ∷ drawOf sc rs 2 2
+    ∷ drawOf sc rs 0 2 2
     ∷ []
 
 -- the layers' stands then
@@ -117,22 +119,22 @@ not-0 : (n : ℕ) → suc n ≡ 0 → ⊥
 not-0 n e = omega arith
 
 making : (cs : List Call) (g : ℕ → Stands) → Keeps sc rs ready (afterAll start made) cs g → Keeps sc rs (λ i. nothing) start (made ++ cs) g
-unfolding drawing flat joined ready after afterAll clearing clearCode joining joinCode
+unfolding faced flat joined ready after afterAll clearing clearCode joining joinCode
 making cs g k =
     clears 3 (record { numbers = refl; depths = refl })
-    (plan.draws 3 3 (lit< tt) refl
+    (plan.draws 0 3 3 refl (lit< tt) refl
     (clears 0 (record { numbers = refl; depths = refl })
     (refused ofItself (not-0 0)
-    (plan.draws 0 0 (lit< tt) refl
+    (plan.draws 0 0 0 refl (lit< tt) refl
     (clears 4 (record { numbers = refl; depths = refl })
     (refused mixed (not-0 3)
-    (plan.draws 4 4 (lit< tt) refl
+    (plan.draws 0 4 4 refl (lit< tt) refl
     (joins 3 4 3 1 1 (apart (lit< tt)) refl refl
     (clears 1 (record { numbers = refl; depths = refl })
-    (plan.draws 1 1 (lit< tt) refl
+    (plan.draws 0 1 1 refl (lit< tt) refl
     (refused foreign (not-0 3)
     (clears 2 (record { numbers = refl; depths = refl })
-    (plan.draws 2 2 (lit< tt) refl k)))))))))))))
+    (plan.draws 0 2 2 refl (lit< tt) refl k)))))))))))))
 
 -- ((0 1) 2) (3 4)
 pub left-first : Case

@@ -9,4 +9,5 @@ pub mod Case
 pub mod Bracketing
 pub mod Example
 pub mod Instance
+pub mod FrontInstance
 pub mod TwoRuns

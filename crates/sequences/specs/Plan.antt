@@ -8,6 +8,7 @@ use lib.ListN.{length, take, getD}
 use Rattle.cells.specs.Steps.{Spans}
 use Rattle.meshes.specs.Mesh.{Face}
 use Rattle.rules.specs.Offers.{Scene}
+use Rattle.rules.specs.Calls.{facingOf}
 use Rattle.sequences.specs.Calls.{Store, layerOf, whole, Call, clear, draw, join, outcomeOf, after}
 
 -- the face slice `tri2vtx` of a list of faces
@@ -41,24 +42,25 @@ module _ (sc : Scene) (rs : List (List Face)) where
   abbrev pub clearOf : ℕ → Call
   clearOf i = clear (whole i) (sc .width) (sc .height)
 
-  abbrev pub drawOf : ℕ → ℕ → Call
-  drawOf r i = draw (whole i) (flat (run r)) (sc .vertices) (sc .width) (sc .height) (sc .matrix) (firstOf r)
+  abbrev pub drawOf : ℕ → ℕ → ℕ → Call
+  drawOf facing r i = draw (whole i) (flat (run r)) (sc .vertices) (sc .width) (sc .height) (sc .matrix) (firstOf r) facing
 
   abbrev pub joinOf : ℕ → ℕ → Call
   joinOf i j = join (whole i) (whole j) (sc .width) (sc .height)
 
-  -- A sequence of calls, from the layers as they stand, that keeps to the plan. A layer has the image's lengths when it is cleared. A refused call may have any arguments.
+  -- A sequence of calls, from the layers as they stand, that keeps to the plan. Every draw names the scene's facing, by 0 or by any other number. A layer has the image's lengths when it is cleared. A refused call may have any arguments.
   pub data Keeps : (ℕ → Stands) → Store → List Call → (ℕ → Stands) → Type 0 where
     over : {g : ℕ → Stands} {s : Store} → Keeps g s [] g
     clears : {g : ℕ → Stands} {s : Store} {cs : List Call} {g' : ℕ → Stands} (i : ℕ)
         → Spans (layerOf s i) (sc .width * sc .height)
         → Keeps (changedAt g i blank) (after s (clearOf i)) cs g'
         → Keeps g s (clearOf i ∷ cs) g'
-    draws : {g : ℕ → Stands} {s : Store} {cs : List Call} {g' : ℕ → Stands} (i r : ℕ)
+    draws : {g : ℕ → Stands} {s : Store} {cs : List Call} {g' : ℕ → Stands} (facing i r : ℕ)
+        → facingOf facing ≡ sc .facing
         → r < length rs
         → g i ≡ blank
-        → Keeps (changedAt g i (runs r 1)) (after s (drawOf r i)) cs g'
-        → Keeps g s (drawOf r i ∷ cs) g'
+        → Keeps (changedAt g i (runs r 1)) (after s (drawOf facing r i)) cs g'
+        → Keeps g s (drawOf facing r i ∷ cs) g'
     joins : {g : ℕ → Stands} {s : Store} {cs : List Call} {g' : ℕ → Stands} (i j from m n : ℕ)
         → (i ≡ j → ⊥)
         → g i ≡ runs from m
@@ -74,6 +76,6 @@ module _ (sc : Scene) (rs : List (List Face)) where
   unfoldable pub Accepted : {g : ℕ → Stands} {s : Store} {cs : List Call} {g' : ℕ → Stands} → Keeps g s cs g' → Type 0
   Accepted over = Unit {0}
   Accepted (clears {s = s} i h k) = (outcomeOf s (clearOf i) .code ≡ 0) × Accepted k
-  Accepted (draws {s = s} i r h e k) = (outcomeOf s (drawOf r i) .code ≡ 0) × Accepted k
+  Accepted (draws {s = s} facing i r f h e k) = (outcomeOf s (drawOf facing r i) .code ≡ 0) × Accepted k
   Accepted (joins {s = s} i j from m n d hi hj k) = (outcomeOf s (joinOf i j) .code ≡ 0) × Accepted k
   Accepted (refused c h k) = Accepted k

@@ -14,7 +14,7 @@ use Rattle.cells.specs.Steps.{Spans}
 use Rattle.layers.specs.Calls.{clearing, joining}
 use Rattle.meshes.specs.Mesh.{Face, facesOf}
 use Rattle.rules.specs.Offers.{Scene}
-use Rattle.rules.specs.Calls.{drawCode, draws}
+use Rattle.rules.specs.Calls.{drawCode, facingOf, draws}
 use Rattle.sequences.specs.Calls.{Store, after, afterAll}
 use Rattle.sequences.specs.Plan as plan
 use Rattle.sequences.specs.Plan.{flat, joined, nothing, runs, changedAt, over, clears, joins, clearOf, drawOf, joinOf, Accepted}
@@ -71,7 +71,7 @@ map-every (n ∷ ns) = ap₂ _∷_ (renumber-every n) (map-every ns)
 
 -- ---- the case
 
-module _ (sc : Scene) (tri : List ℕ) (count : ℕ) (left right : Layer) (accepted : drawCode (cleared (pixelCount sc)) tri (sc .vertices) (sc .width) (sc .height) 0 ≡ 0) where
+module _ (sc : Scene) (facing : ℕ) (named : facingOf facing ≡ sc .facing) (tri : List ℕ) (count : ℕ) (left right : Layer) (accepted : drawCode (cleared (pixelCount sc)) tri (sc .vertices) (sc .width) (sc .height) 0 ≡ 0) where
   abbrev fs : List Face
   fs = facesOf tri
 
@@ -93,13 +93,13 @@ module _ (sc : Scene) (tri : List ℕ) (count : ℕ) (left right : Layer) (accep
   unfolding after
   twoRuns sl sr =
       record {
-        mesh = record { tri2vtx = tri; sc = sc; accepted = accepted; keep = every; idle = λ i h t. absurd t; rs = rs; cut = cut };
+        mesh = record { tri2vtx = tri; sc = sc; accepted = accepted; facing = facing; named = named; keep = every; idle = λ i h t. absurd t; rs = rs; cut = cut };
         start = start;
-        calls = clearOf sc rs 0 ∷ drawOf sc rs 0 0 ∷ clearOf sc rs 1 ∷ drawOf sc rs 1 1 ∷ joinOf sc rs 0 1 ∷ [];
+        calls = clearOf sc rs 0 ∷ drawOf sc rs facing 0 0 ∷ clearOf sc rs 1 ∷ drawOf sc rs facing 1 1 ∷ joinOf sc rs 0 1 ∷ [];
         plan =
             record {
               stands = changedAt (changedAt (changedAt (changedAt (changedAt (λ i. nothing) 0 plan.blank) 0 (runs 0 1)) 1 plan.blank) 1 (runs 1 1)) 0 (runs 0 2);
-              keeps = clears 0 sl (plan.draws 0 0 (lit< tt) refl (clears 1 sr (plan.draws 1 1 (lit< tt) refl (joins 0 1 0 1 1 (λ e. omega arith) refl refl over))));
+              keeps = clears 0 sl (plan.draws facing 0 0 named (lit< tt) refl (clears 1 sr (plan.draws facing 1 1 named (lit< tt) refl (joins 0 1 0 1 1 (λ e. omega arith) refl refl over))));
               last = 0;
               remaining = refl;
             };
@@ -108,8 +108,8 @@ module _ (sc : Scene) (tri : List ℕ) (count : ℕ) (left right : Layer) (accep
   -- what the calls leave, for the runs' slices a and b, the second numbered from k
   abbrev joinedRuns : List ℕ → List ℕ → ℕ → Outcome Layer
   joinedRuns a b k =
-      joining (draws (clearing left (sc .width) (sc .height) .left) a (sc .vertices) (sc .width) (sc .height) (sc .matrix) 0 .left)
-      (draws (clearing right (sc .width) (sc .height) .left) b (sc .vertices) (sc .width) (sc .height) (sc .matrix) k .left) (sc .width) (sc .height)
+      joining (draws (clearing left (sc .width) (sc .height) .left) a (sc .vertices) (sc .width) (sc .height) (sc .matrix) 0 facing .left)
+      (draws (clearing right (sc .width) (sc .height) .left) b (sc .vertices) (sc .width) (sc .height) (sc .matrix) k facing .left) (sc .width) (sc .height)
 
   module _ (few : count ≤ length tri / 3) (sl : Spans left (pixelCount sc)) (sr : Spans right (pixelCount sc)) where
     same-layer : final (twoRuns sl sr) ≡ full (twoRuns sl sr .mesh)
@@ -122,7 +122,7 @@ module _ (sc : Scene) (tri : List ℕ) (count : ℕ) (left right : Layer) (accep
     unfolding twoRuns after afterAll joined Accepted
     planned = ap₂ outcome (pictures (twoRuns sl sr) .answered .1 .1 .1 .1 .0) refl
 
-    whole-list : outcome 0 (full (twoRuns sl sr .mesh)) ≡ draws (cleared (pixelCount sc)) tri (sc .vertices) (sc .width) (sc .height) (sc .matrix) 0
+    whole-list : outcome 0 (full (twoRuns sl sr .mesh)) ≡ draws (cleared (pixelCount sc)) tri (sc .vertices) (sc .width) (sc .height) (sc .matrix) 0 facing
     unfolding twoRuns draws
     whole-list = ap₂ outcome (sym accepted) refl
 
@@ -130,7 +130,7 @@ module _ (sc : Scene) (tri : List ℕ) (count : ℕ) (left right : Layer) (accep
     count-is = rw append-nil (taken count fs (omega (arith, length-flat fs, ap length threes)))
 
     -- The joined layer is what drawing the whole list gives.
-    pub two-runs : joinedRuns (take (3 * count) tri) (drop (3 * count) tri) count ≡ draws (cleared (pixelCount sc)) tri (sc .vertices) (sc .width) (sc .height) (sc .matrix) 0
+    pub two-runs : joinedRuns (take (3 * count) tri) (drop (3 * count) tri) count ≡ draws (cleared (pixelCount sc)) tri (sc .vertices) (sc .width) (sc .height) (sc .matrix) 0 facing
     two-runs =
         let a : take (3 * count) tri ≡ flat (take count fs) = ap (take (3 * count)) (sym threes) ∙ flat-take count fs in
         let b : drop (3 * count) tri ≡ flat (drop count fs) = ap (drop (3 * count)) (sym threes) ∙ flat-drop count fs in

@@ -17,9 +17,10 @@ use Rattle.cells.specs.Steps.{Spans}
 use Rattle.layers.specs.Calls.{exactLayer, clearCode, clearing, joinCode, joining}
 use Rattle.cells.specs.Laws.Pixels.{pixelwise-same, at-pixelwise, spans-pixelwise}
 use Rattle.meshes.specs.Mesh.{Face, facesOf}
-use Rattle.rules.specs.Offers.{Scene, brings, brought}
+use Rattle.rules.specs.declared.Facing.{Facing}
+use Rattle.rules.specs.Offers.{Scene, scene, brings, brought}
 use Rattle.rules.specs.Draw.{painted, drawn}
-use Rattle.rules.specs.Calls.{drawCode, draws}
+use Rattle.rules.specs.Calls.{drawCode, facingOf, draws}
 use Rattle.offers.specs.Offers.{numbered}
 use Rattle.offers.specs.Laws.Joins.{won}
 use Rattle.offers.specs.Laws.Faces.{won-runs}
@@ -39,7 +40,7 @@ accepted-left code before work h = rw h
 left-as-lent : (s : Store) (c : Call) → (outcomeOf s c .code ≡ 0 → ⊥) → outcomeOf s c .left ≡ lentLayer s (written c)
 unfolding clearing draws joining
 left-as-lent s (clear l w h) no0 = refused-left _ _ _ no0
-left-as-lent s (draw l tri xyz w h m first) no0 = refused-left _ _ _ no0
+left-as-lent s (draw l tri xyz w h m first facing) no0 = refused-left _ _ _ no0
 left-as-lent s (join l r w h) no0 = refused-left _ _ _ no0
 
 returned-same : {A : Type 0} (s : ℕ → List A) (l : Lent A) (j : ℕ) → returned s l (contents s l) j ≡ s j
@@ -217,12 +218,13 @@ module _ (sc : Scene) (rs : List (List Face)) where
     unfolding Has
     runs-spans l from m e = rw e (fresh-spans sc (span from m) (firstOf sc rs from))
 
-    drawn-layer : (s : Store) (i r : ℕ) → r < length rs → layerOf s i ≡ cleared (pixelCount sc)
-        → layerOf (after s (drawOf sc rs r i)) i ≡ fresh sc (span r 1) (firstOf sc rs r)
+    drawn-layer : (s : Store) (facing i r : ℕ) → facingOf facing ≡ sc .facing → r < length rs → layerOf s i ≡ cleared (pixelCount sc)
+        → layerOf (after s (drawOf sc rs facing r i)) i ≡ fresh sc (span r 1) (firstOf sc rs r)
     unfolding draws fresh
-    drawn-layer s i r h e =
-        this-layer s (drawOf sc rs r i) i refl
+    drawn-layer s facing i r f h e =
+        this-layer s (drawOf sc rs facing r i) i refl
         ∙ accepted-left _ _ _ (draw-code fit (layerOf s i) r h (blank-spans (layerOf s i) e))
+        ∙ ap (λ (n : Facing). drawn (scene (sc .matrix) (sc .vertices) (sc .width) (sc .height) n) (facesOf (flat (run sc rs r))) (firstOf sc rs r) (layerOf s i)) f
         ∙ ap₂ (λ (fs : List Face) (l : Layer). drawn sc fs (firstOf sc rs r) l) (faces-flat (run sc rs r) ∙ sym (span-one r h)) e
 
     joined-layer : (s : Store) (i j from m n : ℕ) → Has (runs from m) (layerOf s i) → Has (runs (from + m) n) (layerOf s j)
@@ -241,9 +243,9 @@ module _ (sc : Scene) (rs : List (List Face)) where
     kept-through (clears {g = g} {s = s} i h k) inv =
         let rest = kept-through k (put g s (after s (clearOf sc rs i)) i blank inv (other-layers s (clearOf sc rs i) i refl) (clear-layer s i h)) in
         ((clear-code fit (layerOf s i) h, rest .0), rest .1)
-    kept-through (plan.draws {g = g} {s = s} i r h e k) inv =
+    kept-through (plan.draws {g = g} {s = s} facing i r f h e k) inv =
         let has : layerOf s i ≡ cleared (pixelCount sc) = subst (λ (x : Stands). Has x (layerOf s i)) e (inv i) in
-        let rest = kept-through k (put g s (after s (drawOf sc rs r i)) i (runs r 1) inv (other-layers s (drawOf sc rs r i) i refl) (drawn-layer s i r h has)) in
+        let rest = kept-through k (put g s (after s (drawOf sc rs facing r i)) i (runs r 1) inv (other-layers s (drawOf sc rs facing r i) i refl) (drawn-layer s facing i r f h has)) in
         ((draw-code fit (layerOf s i) r h (blank-spans (layerOf s i) has), rest .0), rest .1)
     kept-through (joins {g = g} {s = s} i j from m n d ei ej k) inv =
         let hi = subst (λ (x : Stands). Has x (layerOf s i)) ei (inv i) in

@@ -7,6 +7,8 @@ const WIDTH: usize = 2;
 
 const HEIGHT: usize = 2;
 
+const ALL_FACES: u32 = 0;
+
 const IDENTITY: [f32; 16] = [
     1.0,
     0.0,
@@ -86,6 +88,7 @@ fn main() {
         HEIGHT,
         &matrix,
         0,
+        ALL_FACES,
     );
     print_pixels(&pix2tri, &pix2depth);
 }

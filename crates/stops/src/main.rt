@@ -3,6 +3,8 @@
 // Each stop begins with the layer as it was before, and writes a line: the number of visits; then of each pixel whose cell is another now, in rising order,
 // the pixel, its map entry and its depth. The package rust/comparison wrote stdin and stdout (examples/stops.rs, whose comment says of which pieces).
 
+use rules::Facing;
+
 const STDOUT: i32 = 1;
 
 const SPACE: u8 = 32;
@@ -61,7 +63,9 @@ fn stop(number: u32, before: f32, ndc: [[f32; 3]; 3], n: u32) {
         HEIGHT,
         number,
         ndc,
+        false,
         n as usize,
+        Facing::All,
     );
     words::write(n, SPACE);
     write_pixels(&pix2tri, &pix2depth, before);

@@ -5,6 +5,7 @@ pub mod Edges
 pub mod Floats
 pub mod Load
 pub mod Visits
+pub mod Facing
 use mathlib.Core.Path.{_≡_, refl}
 use mathlib.Core.List.{[], _∷_}
 use lib.Ieee.{nan, binary32, ofBits}
@@ -12,7 +13,7 @@ use Rattle.questions.specs.Questions.{empty, outcome}
 use Rattle.offers.specs.Offer.{lowest}
 use Rattle.cells.specs.Layer.{layer}
 use Rattle.roots.specs.Root.{root}
-use Rattle.sequences.specs.Example.{zero, one, minusOne, quarter, corners, four, blank, drawing}
+use Rattle.sequences.specs.Example.{zero, one, minusOne, quarter, corners, four, blank, drawing, faced}
 use Rattle.theorems.specs.Examples.Values.{word, showing}
 use Rattle.theorems.specs.Examples.Edges.{typedOf, typed, typedAs}
 
@@ -39,7 +40,7 @@ pub record Marked : Type 0 where
       × (drawing blank (0 ∷ 1 ∷ 2 ∷ []) (corners quarter) zero one .code ≡ 0)
 
 pub marked : Marked
-unfolding drawing showing typedOf root ofBits
+unfolding faced showing typedOf root ofBits
 marked =
     record {
       one-face = refl;

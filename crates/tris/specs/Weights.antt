@@ -4,7 +4,7 @@ use mathlib.Core.Option.{Option, none, some}
 use lib.Ieee.{Float}
 use lib.Ieee.Scale.{finite}
 use Rattle.geometry.specs.Arith.{floats}
-use Rattle.geometry.specs.Vector.{Vec2, Weights, weights, Projected, Triangle}
+use Rattle.geometry.specs.Vector.{Vec2, Weights, weights, Weighed, Projected, Triangle}
 use Rattle.geometry.specs.Leaf.{weighedAll}
 use Rattle.inside.specs.Inside.{weightsIn}
 
@@ -17,9 +17,9 @@ unfoldable pub finiteAll : Option (Weights Float) → Option (Weights Float)
 finiteAll none = none
 finiteAll (some b) = cond (finite (b .b0) && (finite (b .b1) && finite (b .b2))) (some b) none
 
-unfoldable pub toWorld : Triangle (Projected Float) → Option (Weights Float) → Option (Weights Float)
+unfoldable pub toWorld : Triangle (Projected Float) → Option (Weighed Float) → Option (Weights Float)
 toWorld t none = none
-toWorld t (some b) = finiteAll (weighedAll (overDivisors t b))
+toWorld t (some a) = finiteAll (weighedAll (overDivisors t (a .b)))
 
 -- of the point q in a projected face; none, too, where a corner has no projection, which question 8 refuses
 unfoldable pub worldIn : Vec2 Float → Option (Triangle (Projected Float)) → Option (Weights Float)

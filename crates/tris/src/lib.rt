@@ -5,7 +5,7 @@ ghost use mathlib.Core.Option.{some};
 ghost use Prim.Native.Nat.{_+_, _*_, _/_, _<_};
 ghost use lib.ListN.{length};
 ghost use Rattle.geometry.specs.Vector.{weights, triangle};
-ghost use Rattle.geometry.specs.Answer.{point2, point3, projectedOf, weightsOf};
+ghost use Rattle.geometry.specs.Answer.{point2, point3, projectedOf, weightsOf, cornerWeightsOf};
 ghost use Rattle.meshes.specs.Mesh.{faceAt, cornersAt};
 ghost use Rattle.inside.specs.Inside.{allInside, weightsIn, present};
 ghost use Rattle.meshes.specs.Sound.{SoundMesh};
@@ -17,6 +17,7 @@ use geometry::CornerWeights;
 use geometry::Projected;
 use geometry::Vec2;
 use geometry::Vec3;
+use geometry::Weights;
 use rays::Corners;
 
 pub struct Tri {
@@ -68,7 +69,7 @@ pub fn tri_new(tri2vtx: &[u32], vtx2xyz: &[f32], m: &[f32; 16], i: usize) -> Tri
 }
 
 fn barycentric_pix(t: Tri, q: Vec2) -> CornerWeights
-    ensures { λ r. ⌜ weightsOf r ≡ weightsIn (point2 q) (some (projectedIn t)) ⌝ }
+    ensures { λ r. ⌜ cornerWeightsOf r ≡ weightsIn (point2 q) (some (projectedIn t)) ⌝ }
 {
     let p = t.node2pixxy;
     geometry::corner_weights(
@@ -87,29 +88,29 @@ pub fn is_inside(t: Tri, q: Vec2) -> bool
 }
 
 // The weights, or none where one of them is not finite.
-fn all_finite(b: CornerWeights) -> CornerWeights
+fn all_finite(b: Weights) -> Weights
     ensures { λ r. ⌜ weightsOf r ≡ spec.finiteAll (weightsOf b) ⌝ }
 {
-    let CornerWeights::Three(b0, b1, b2) = b else {
-        return CornerWeights::Nothing;
+    let Weights::Three(b0, b1, b2) = b else {
+        return Weights::Nothing;
     };
     if !geometry::finite(b0) {
-        return CornerWeights::Nothing;
+        return Weights::Nothing;
     }
     if !geometry::finite(b1) {
-        return CornerWeights::Nothing;
+        return Weights::Nothing;
     }
     if !geometry::finite(b2) {
-        return CornerWeights::Nothing;
+        return Weights::Nothing;
     }
-    CornerWeights::Three(b0, b1, b2)
+    Weights::Three(b0, b1, b2)
 }
 
-pub fn barycentric_world(t: Tri, q: Vec2) -> CornerWeights
+pub fn barycentric_world(t: Tri, q: Vec2) -> Weights
     ensures { λ r. ⌜ weightsOf r ≡ spec.worldIn (point2 q) (some (projectedIn t)) ⌝ }
 {
-    let CornerWeights::Three(b0, b1, b2) = barycentric_pix(t, q) else {
-        return CornerWeights::Nothing;
+    let CornerWeights::Three(b0, b1, b2, _) = barycentric_pix(t, q) else {
+        return Weights::Nothing;
     };
     let w = t.node2w;
     let a0 = b0 / w[0];
@@ -123,8 +124,8 @@ pub fn has_world(t: Tri, q: Vec2) -> bool
     ensures { λ r. ⌜ r ≡ present (spec.worldIn (point2 q) (some (projectedIn t))) ⌝ }
 {
     match barycentric_world(t, q) {
-        CornerWeights::Three(_, _, _) => true,
-        CornerWeights::Nothing => false,
+        Weights::Three(_, _, _) => true,
+        Weights::Nothing => false,
     }
 }
 

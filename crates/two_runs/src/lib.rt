@@ -20,12 +20,23 @@ fn draw_run(
     img_h: usize,
     m: &[f32; 16],
     first: u32,
+    facing: u32,
 )
     ensures { λ r. ⌜ layer (now (pix2tri .exit)) (now (pix2depth .exit))
-        ≡ draws (clearing (layer (now (pix2tri .entry)) (now (pix2depth .entry))) «img_w» «img_h» .left) (now (tri2vtx .entry)) (now (vtx2xyz .entry)) «img_w» «img_h» (now (m .entry)) first .left ⌝ }
+        ≡ draws (clearing (layer (now (pix2tri .entry)) (now (pix2depth .entry))) «img_w» «img_h» .left) (now (tri2vtx .entry)) (now (vtx2xyz .entry)) «img_w» «img_h» (now (m .entry)) first facing .left ⌝ }
 {
     layers::clear(pix2tri, pix2depth, img_w, img_h);
-    drawing::pix2tri_by_rasterization(pix2tri, pix2depth, tri2vtx, vtx2xyz, img_w, img_h, m, first);
+    drawing::pix2tri_by_rasterization(
+        pix2tri,
+        pix2depth,
+        tri2vtx,
+        vtx2xyz,
+        img_w,
+        img_h,
+        m,
+        first,
+        facing,
+    );
 }
 
 // The first `count` faces go to the left layer, the others, numbered on, to the right one. Joined, the left layer is what one draw of the whole mesh leaves
@@ -41,13 +52,14 @@ pub fn draw_in_two_runs(
     img_h: usize,
     transform_world2ndc: &[f32; 16],
     count: usize,
+    facing: u32,
 ) -> u32
     requires { ⌜ drawCode (cleared («img_w» * «img_h»)) (now tri2vtx) (now vtx2xyz) «img_w» «img_h» 0 ≡ 0 ⌝ }
     requires { ⌜ count ≤ length (now tri2vtx) / 3 ⌝ }
     requires { ⌜ Spans (layer (now «left_pix2tri») (now «left_pix2depth»)) («img_w» * «img_h») ⌝ }
     requires { ⌜ Spans (layer (now «right_pix2tri») (now «right_pix2depth»)) («img_w» * «img_h») ⌝ }
     ensures { λ r. ⌜ outcome r (layer (now («left_pix2tri» .exit)) (now («left_pix2depth» .exit)))
-        ≡ draws (cleared («img_w» * «img_h»)) (now (tri2vtx .entry)) (now (vtx2xyz .entry)) «img_w» «img_h» (now («transform_world2ndc» .entry)) 0 ⌝ }
+        ≡ draws (cleared («img_w» * «img_h»)) (now (tri2vtx .entry)) (now (vtx2xyz .entry)) «img_w» «img_h» (now («transform_world2ndc» .entry)) 0 facing ⌝ }
 {
     let cut = 3 * count;
     draw_run(
@@ -59,6 +71,7 @@ pub fn draw_in_two_runs(
         img_h,
         transform_world2ndc,
         0,
+        facing,
     );
     draw_run(
         right_pix2tri,
@@ -69,6 +82,7 @@ pub fn draw_in_two_runs(
         img_h,
         transform_world2ndc,
         count as u32,
+        facing,
     );
     layers::join(
         left_pix2tri,

@@ -3,6 +3,7 @@ use borrow.Author.Needs.{needs}
 use native.Mathlib.Omega.{arith}
 use Rattle.cells.specs.Layer.{layer}
 use Rattle.boxes.specs.Answer.{screenOf}
+use Rattle.lanes.specs.Answer.{within}
 use Rattle.blocks.proofs.Centres.{on-1, on-2, on-3}
 use Rattle.blocks.proofs.Four.{four-done}
 use Rattle.blocks.proofs.visit_four.Statement.{statement}
@@ -15,7 +16,7 @@ returns c =
     let room = f .pre .1 .1 .0 .0 in
     let near = f .pre .0 .h-most in
     let q = f .pre .1 .1 .1 .1 .1 in
-    four-done (screenOf (a .s)) (a .number) (a .w) (a .h) (a .ix) (a .y1) (f .pre .0) (f .pre .1 .1 .1 .0 .1) (f .pre .1 .1 .1 .0 .0) (omega (arith, f .pre .1 .1 .0 .1)) (f .pre .1 .1 .1 .1 .0) (c .before .before .before .before .before .before .before .before .before .before .before .before .before .before .before .centre .ensures)
+    four-done (within (a .side)) (screenOf (a .s)) (a .number) (a .w) (a .h) (a .ix) (a .y1) (f .pre .0) (f .pre .1 .1 .1 .0 .1) (f .pre .1 .1 .1 .0 .0) (omega (arith, f .pre .1 .1 .0 .1)) (f .pre .1 .1 .1 .1 .0) (c .before .before .before .before .before .before .before .before .before .before .before .before .before .before .before .centre .ensures)
     (layer (a .pix2tri .now) (a .pix2depth .now)) (a .iy) (f .pre .1 .0) room (f .pre .1 .1 .0 .1) q
     (on-1 (a .qy) (a .iy) q (omega arith))
     (on-2 (a .qy) (a .iy) q (omega arith))

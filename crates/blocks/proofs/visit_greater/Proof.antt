@@ -4,6 +4,7 @@ use native.Mathlib.Omega.{arith}
 use Rattle.lists.specs.Laws.Tests.{said-no}
 use Rattle.cells.specs.Layer.{layer}
 use Rattle.boxes.specs.Answer.{screenOf}
+use Rattle.lanes.specs.Answer.{within}
 use Rattle.blocks.specs.Rows.{depthCells}
 use Rattle.blocks.specs.Greater.{fourIfGreater}
 use Rattle.blocks.proofs.Four.{four-left-out, spans-greater}
@@ -13,7 +14,7 @@ use Rattle.blocks.proofs.visit_greater.Tie as tie
 returns : tie.Need-returns
 returns c =
     let a = c .before .before .before .before .args in
-    four-left-out (depthCells (screenOf (a .s)) (a .number) (a .w)) (a .w) (a .ix) (a .iy) (a .z0) (a .z1) (a .z2) (a .z3) (layer (a .pix2tri .now) (a .pix2depth .now))
+    four-left-out (depthCells (within (a .side)) (screenOf (a .s)) (a .number) (a .w)) (a .w) (a .ix) (a .iy) (a .z0) (a .z1) (a .z2) (a .z3) (layer (a .pix2tri .now) (a .pix2depth .now))
     (said-no (c .before .some-offer .ensures) (c .if1 .taken))
 
 add-visit-if-greater-3 : tie.Need-add-visit-if-greater-3

@@ -11,17 +11,17 @@ use Rattle.faces.proofs.draw_faces.Statement.{statement}
 use Rattle.faces.proofs.draw_faces.Tie as tie
 
 abbrev Inv-loop : tie.InvT-loop
-Inv-loop pix2tri₀ pix2depth₀ tri2vtx vtx2xyz w h m first count i₀ number₀ pix2tri pix2depth i number =
-    (count ≡ length tri2vtx / 3) × Left (scene m vtx2xyz w h) (facesOf tri2vtx) first (layer pix2tri₀ pix2depth₀) (layer pix2tri pix2depth) i number
+Inv-loop pix2tri₀ pix2depth₀ tri2vtx vtx2xyz w h m first facing count i₀ number₀ pix2tri pix2depth i number =
+    (count ≡ length tri2vtx / 3) × Left (scene m vtx2xyz w h facing) (facesOf tri2vtx) first (layer pix2tri₀ pix2depth₀) (layer pix2tri pix2depth) i number
 
 abbrev μ-loop : tie.MeasureT-loop
-μ-loop pix2tri₀ pix2depth₀ tri2vtx vtx2xyz w h m first count i₀ number₀ pix2tri pix2depth i number = count - i
+μ-loop pix2tri₀ pix2depth₀ tri2vtx vtx2xyz w h m first facing count i₀ number₀ pix2tri pix2depth i number = count - i
 
 loop-holds : tie.Need-loop-holds Inv-loop μ-loop
 loop-holds c =
     let f = c .before .before .before .before in
     let a = f .args in
-    (refl, left-all (scene (a .m .now) (a .vtx2xyz .now) (a .w) (a .h)) (facesOf (a .tri2vtx .now)) (a .first) (layer (a .pix2tri .now) (a .pix2depth .now)) (f .pre .1 .0))
+    (refl, left-all (scene (a .m .now) (a .vtx2xyz .now) (a .w) (a .h) (a .facing)) (facesOf (a .tri2vtx .now)) (a .first) (layer (a .pix2tri .now) (a .pix2depth .now)) (f .pre .1 .0))
 
 draw-face-requires : tie.Need-draw-face-requires Inv-loop μ-loop
 draw-face-requires c κs =
@@ -46,7 +46,7 @@ loop-again c =
     let m = turn .before in
     let a = m .before .before .before .before .before .args in (
       m .loop .inv .0,
-      left-less (scene (a .m .now) (a .vtx2xyz .now) (a .w) (a .h)) (a .tri2vtx .now) (a .first) (layer (a .pix2tri .now) (a .pix2depth .now)) (layer (m .loop .pix2tri) (m .loop .pix2depth)) _ (m .loop .i) (m .loop .number)
+      left-less (scene (a .m .now) (a .vtx2xyz .now) (a .w) (a .h) (a .facing)) (a .tri2vtx .now) (a .first) (layer (a .pix2tri .now) (a .pix2depth .now)) (layer (m .loop .pix2tri) (m .loop .pix2depth)) _ (m .loop .i) (m .loop .number)
           (omega (arith, m .loop .inv .0, turn .loop-test .taken))
           (m .loop .inv .1)
           (c .before .before .before .before .draw-face .ensures),
@@ -62,7 +62,7 @@ returns : tie.Need-returns Inv-loop μ-loop
 returns c =
     let m = c .before in
     let a = m .before .before .before .before .before .args in
-    left-none (scene (a .m .now) (a .vtx2xyz .now) (a .w) (a .h)) (a .tri2vtx .now) (a .first) (layer (a .pix2tri .now) (a .pix2depth .now)) (layer (m .loop .pix2tri) (m .loop .pix2depth)) (m .loop .i) (m .loop .number) (omega (arith, m .loop .inv .0)) (m .loop .inv .1)
+    left-none (scene (a .m .now) (a .vtx2xyz .now) (a .w) (a .h) (a .facing)) (a .tri2vtx .now) (a .first) (layer (a .pix2tri .now) (a .pix2depth .now)) (layer (m .loop .pix2tri) (m .loop .pix2depth)) (m .loop .i) (m .loop .number) (omega (arith, m .loop .inv .0)) (m .loop .inv .1)
 
 pub draw-faces-spec : {M : Type 1} → statement M
 draw-faces-spec =

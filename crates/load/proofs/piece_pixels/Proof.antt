@@ -8,7 +8,7 @@ use Rattle.load.proofs.piece_pixels.Tie as tie
 
 returns : tie.Need-returns
 unfolding screened onScreen
-returns c = no-columns _ _ _ (c .before .count-centres .ensures) (c .if1 .taken)
+returns c = λ turned. no-columns _ _ _ (c .before .count-centres .ensures) (c .if1 .taken)
 
 mul-result : tie.Need-mul-result
 mul-result c =
@@ -17,7 +17,7 @@ mul-result c =
 
 returns-2 : tie.Need-returns-2
 unfolding screened onScreen
-returns-2 c = counted _ _ _ (c .before .before .before .before .before .count-centres .ensures) (c .count-centres2 .ensures)
+returns-2 c = λ turned. counted _ _ _ (c .before .before .before .before .before .count-centres .ensures) (c .count-centres2 .ensures)
 
 pub piece-pixels-spec : {M : Type 1} → statement M
 piece-pixels-spec =

@@ -10,19 +10,19 @@ use Rattle.pieces.proofs.face_pieces.Tie as tie
 
 returns : tie.Need-returns
 unfolding facePieces faceAt
-returns c = λ w h. no-first _ _ _ _ (found (c .before .before .corner .ensures) (c .enum-told .given .1))
+returns c = λ w h facing. no-first _ _ _ _ (found (c .before .before .corner .ensures) (c .enum-told .given .1))
 
 returns-2 : tie.Need-returns-2
 unfolding facePieces faceAt
 returns-2 c =
-    λ w h.
+    λ w h facing.
     let a = c .before .before .before .before in
     no-second _ _ _ _ (found (a .before .before .corner .ensures) (a .a .given .1)) (found (c .before .before .corner2 .ensures) (c .enum-told2 .given .1))
 
 returns-3 : tie.Need-returns-3
 unfolding facePieces faceAt
 returns-3 c =
-    λ w h.
+    λ w h facing.
     let b = c .before .before .before .before in
     let a = b .before .before .before .before in
     no-third _ _ _ _ (found (a .before .before .corner .ensures) (a .a .given .1)) (found (b .before .before .corner2 .ensures) (b .b .given .1)) (found (c .before .before .corner3 .ensures) (c .enum-told3 .given .1))
@@ -30,7 +30,7 @@ returns-3 c =
 returns-4 : tie.Need-returns-4
 unfolding facePieces faceAt
 returns-4 c =
-    λ w h.
+    λ w h facing.
     let s = c .before .before in
     let d = s .before .before .before .before .before in
     let b = d .before .before .before .before in
@@ -42,7 +42,7 @@ returns-4 c =
 returns-5 : tie.Need-returns-5
 unfolding facePieces faceAt
 returns-5 c =
-    λ w h.
+    λ w h facing.
     let s = c .before .before .before in
     let d = s .before .before .before .before .before in
     let b = d .before .before .before .before in

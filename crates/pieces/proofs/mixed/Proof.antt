@@ -26,32 +26,30 @@ add-if1-2 c =
 returns : tie.Need-returns
 unfolding mixed
 returns c =
-    let s = c .before .before .before in
-    let i = s .before .before .before in
+    let i = c .before .before .before in
     rw (
       ← (i .before .before .before .beyond-bit .ensures),
       ← (i .before .before .beyond-bit2 .ensures),
       ← (i .before .beyond-bit3 .ensures),
       eq-eqb _ 1 (i .if1 .taken),
-      ← (s .before .before .beyond-near .ensures),
-      ← (s .before .beyond-near2 .ensures),
+      ← (c .before .before .beyond-near .ensures),
+      ← (c .before .beyond-near2 .ensures),
     )
-    (s .lone-first .ensures onePiece)
+    (c .lone-first .ensures onePiece)
 
 returns-2 : tie.Need-returns-2
 unfolding mixed
 returns-2 c =
-    let s = c .before .before .before in
-    let i = s .before .before .before in
+    let i = c .before .before .before in
     rw (
       ← (i .before .before .before .beyond-bit .ensures),
       ← (i .before .before .beyond-bit2 .ensures),
       ← (i .before .beyond-bit3 .ensures),
       ne-eqb _ 1 (i .if1 .left),
-      ← (s .before .before .before-near .ensures),
-      ← (s .before .before-near2 .ensures),
+      ← (c .before .before .before-near .ensures),
+      ← (c .before .before-near2 .ensures),
     )
-    (s .lone-first2 .ensures twoPieces)
+    (c .lone-first2 .ensures twoPieces)
 
 pub mixed-spec : {M : Type 1} → statement M
 mixed-spec =

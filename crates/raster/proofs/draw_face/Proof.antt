@@ -13,14 +13,14 @@ returns : tie.Need-returns
 unfolding facePieces faceAt
 returns c =
     let f = c .before .before .before .before .before .before .before in
-    passed-over _ _ _ (layer _ _) (f .pre .1 .0) (no-first _ _ _ _ (found (c .before .before .corner .ensures) (c .enum-told .given .1)))
+    passed-over _ _ _ _ (layer _ _) (f .pre .1 .0) (no-first _ _ _ _ (found (c .before .before .corner .ensures) (c .enum-told .given .1)))
 
 returns-2 : tie.Need-returns-2
 unfolding facePieces faceAt
 returns-2 c =
     let a = c .before .before .before .before in
     let f = a .before .before .before .before .before .before .before in
-    passed-over _ _ _ (layer _ _) (f .pre .1 .0)
+    passed-over _ _ _ _ (layer _ _) (f .pre .1 .0)
     (no-second _ _ _ _ (found (a .before .before .corner .ensures) (a .a .given .1)) (found (c .before .before .corner2 .ensures) (c .enum-told2 .given .1)))
 
 returns-3 : tie.Need-returns-3
@@ -29,7 +29,7 @@ returns-3 c =
     let b = c .before .before .before .before in
     let a = b .before .before .before .before in
     let f = a .before .before .before .before .before .before .before in
-    passed-over _ _ _ (layer _ _) (f .pre .1 .0)
+    passed-over _ _ _ _ (layer _ _) (f .pre .1 .0)
     (no-third _ _ _ _ (found (a .before .before .corner .ensures) (a .a .given .1)) (found (b .before .before .corner2 .ensures) (b .b .given .1)) (found (c .before .before .corner3 .ensures) (c .enum-told3 .given .1)))
 
 returns-4 : tie.Need-returns-4
@@ -40,7 +40,7 @@ returns-4 c =
     let d = s .before .before .before .before .before in
     let b = d .before .before .before .before in
     let a = b .before .before .before .before in
-    pieces-drawn _ _ _ (layer _ _) (drew .draw-corners .ensures)
+    pieces-drawn _ _ _ _ (layer _ _) (drew .draw-corners .ensures)
     (all-scored _ _ _ _ (found (a .before .before .corner .ensures) (a .a .given .1)) (found (b .before .before .corner2 .ensures) (b .b .given .1)) (found (d .before .before .corner3 .ensures) (d .c .given .1))
     (s .before .before .scored .ensures) (s .before .scored2 .ensures) (s .scored3 .ensures))
 

@@ -9,7 +9,7 @@ use Rattle.lists.specs.Laws.Tests.{after-yes}
 use Rattle.geometry.specs.Arith.{floats}
 use Rattle.geometry.specs.Vector.{Vec2, Vec3, flat, Triangle}
 use Rattle.geometry.specs.Formula.{cross2, areas, total}
-use Rattle.geometry.specs.Leaf.{weighed, weighedAll, cornerWeights}
+use Rattle.geometry.specs.Leaf.{weighed, weighedAll, withSum, weighedWithSum, cornerWeights}
 use Rattle.rules.specs.Scan.{allFinite, finiteInPixels, depthAt, weighedDepth}
 
 abbrev Both : Float → Float → Type 0
@@ -70,19 +70,19 @@ finite-corners q p0 p1 p2 e =
     let a2 = finite-cross q p0 p1 (k .1) in
     (a2 .0, (a0 .0, a0 .1))
 
-weightless : (s : Triangle (Vec3 Float)) (q : Vec2 Float) (b : Bool) → finite (total floats (areas floats q (flat (s .p0)) (flat (s .p1)) (flat (s .p2)))) ≡ b → (b ≡ true → ⊥) → depthAt s q ≡ []
-unfolding depthAt cornerWeights weighedAll weighed weighedDepth
-weightless s q true e h = absurd (h refl)
-weightless s q false e h = rw e
+weightless : (counted : Float → Bool) (s : Triangle (Vec3 Float)) (q : Vec2 Float) (b : Bool) → finite (total floats (areas floats q (flat (s .p0)) (flat (s .p1)) (flat (s .p2)))) ≡ b → (b ≡ true → ⊥) → depthAt counted s q ≡ []
+unfolding depthAt cornerWeights weighedWithSum withSum weighedAll weighed weighedDepth
+weightless counted s q true e h = absurd (h refl)
+weightless counted s q false e h = rw e
 
 three : (a b c : Float) → finite a ≡ true → finite b ≡ true → finite c ≡ true → allFinite a b c ≡ true
 three a b c d e f = rw (d, e, f)
 
 -- no depth anywhere
-pub nowhere : (s : Triangle (Vec3 Float)) (q : Vec2 Float) → finiteInPixels s ≡ false → depthAt s q ≡ []
+pub nowhere : (counted : Float → Bool) (s : Triangle (Vec3 Float)) (q : Vec2 Float) → finiteInPixels s ≡ false → depthAt counted s q ≡ []
 unfolding finiteInPixels
-nowhere s q n =
-    weightless s q _ refl
+nowhere counted s q n =
+    weightless counted s q _ refl
     (λ e.
     let k = finite-corners q (flat (s .p0)) (flat (s .p1)) (flat (s .p2)) e in
     let columns = three (s .p0 .x) (s .p1 .x) (s .p2 .x) (k .0 .0) (k .1 .0 .0) (k .1 .1 .0) in

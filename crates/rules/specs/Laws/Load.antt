@@ -17,8 +17,9 @@ use Rattle.geometry.specs.Vector.{Vec3, Projected, Triangle}
 use Rattle.geometry.specs.Leaf.{entries}
 use Rattle.meshes.specs.Mesh.{Face}
 use Rattle.rules.specs.Piece.{Piece, Corner, whole, onePiece, twoPieces, beyondNear, beforeNear, allBeyondNear, allBeforeNear, beyondBit, loneFirst, mixed, clipped, anyBehind, cornersPieces, projectedPieces, pieces, scored}
-use Rattle.rules.specs.Scan.{screened, centreAt, scans, depthAt, candidate}
-use Rattle.rules.specs.Offers.{Scene, facePieces, pieceBrings, piecesBring, brings}
+use Rattle.rules.specs.declared.Facing.{Facing}
+use Rattle.rules.specs.Scan.{screened, centreAt, scans, counts, depthAt, candidate}
+use Rattle.rules.specs.Offers.{Scene, scene, facePieces, pieceBrings, piecesBring, brings}
 use Rattle.rules.specs.Load.{charge, piecePixels, facePixels, Load, load, loadOf}
 
 -- ---- one list after the other
@@ -39,6 +40,13 @@ pub load-append : (sc : Scene) (xs ys : List Face) → loadOf sc (xs ++ ys) ≡ 
 unfolding loadOf together
 load-append sc xs ys = ap₂ load (sum-both (charge sc) xs ys) (sum-both (facePixels sc) xs ys)
 
+-- ---- whatever the facing
+
+-- pieces and pixels are those of every facing: what is left out has been scanned
+pub load-facing : (m xyz : List Float) (w h : ℕ) (facing other : Facing) (fs : List Face) → loadOf (scene m xyz w h facing) fs ≡ loadOf (scene m xyz w h other) fs
+unfolding loadOf charge facePixels facePieces
+load-facing m xyz w h facing other fs = refl
+
 -- ---- pixels that depths are brought to
 
 -- whether anything is brought
@@ -52,11 +60,11 @@ brought-either [] ys e = e
 brought-either (x ∷ xs) ys e = refl
 
 -- a piece brings nothing to a pixel that its scan does not hold
-brought-scanned : (s : Triangle (Vec3 Float)) (ix iy : ℕ) → brought? (candidate s ix iy) ≡ true → scans s ix iy ≡ true
+brought-scanned : (counted : Float → Bool) (s : Triangle (Vec3 Float)) (ix iy : ℕ) → brought? (candidate counted s ix iy) ≡ true → scans s ix iy ≡ true
 unfolding candidate brought?
-brought-scanned s ix iy e = go (scans s ix iy) e
+brought-scanned counted s ix iy e = go (scans s ix iy) e
   where
-    go : (b : Bool) → brought? (cond b (depthAt s (centreAt ix iy)) []) ≡ true → b ≡ true
+    go : (b : Bool) → brought? (cond b (depthAt counted s (centreAt ix iy)) []) ≡ true → b ≡ true
     go true e = refl
     go false e = e
 
@@ -65,25 +73,25 @@ first-or true c b i e = rw (i refl)
 first-or false true b i e = refl
 first-or false false b i e = e
 
-module _ (w h : ℕ) where
+module _ (facing : Facing) (w h : ℕ) where
   -- the pixels of the image to which some of the pieces bring a depth
   abbrev reached : List Piece → ℕ
-  reached ts = count (λ p. brought? (piecesBring w h ts p)) (span 0 (w * h))
+  reached ts = count (λ p. brought? (piecesBring facing w h ts p)) (span 0 (w * h))
 
   pieces-within : (ts : List Piece) → reached ts ≤ sumOf (piecePixels w h) ts
   unfolding piecesBring pieceBrings piecePixels brought?
   pieces-within [] = omega (arith, count-alike (λ p. false) false 0 (w * h) (λ i l. refl))
   pieces-within (t ∷ ts) =
       rw (sum-more (piecePixels w h) t ts)
-      (omega (arith, pieces-within ts, count-either (λ p. brought? (piecesBring w h (t ∷ ts) p)) (λ p. scans (screened w h t) (p % w) (p / w)) (λ p. brought? (piecesBring w h ts p)) each (span 0 (w * h))))
+      (omega (arith, pieces-within ts, count-either (λ p. brought? (piecesBring facing w h (t ∷ ts) p)) (λ p. scans (screened w h (t .corners)) (p % w) (p / w)) (λ p. brought? (piecesBring facing w h ts p)) each (span 0 (w * h))))
     where
-      each : (p : ℕ) → brought? (piecesBring w h (t ∷ ts) p) ≡ true → scans (screened w h t) (p % w) (p / w) || brought? (piecesBring w h ts p) ≡ true
-      each p e = first-or _ _ _ (brought-scanned (screened w h t) (p % w) (p / w)) (brought-either (candidate (screened w h t) (p % w) (p / w)) (piecesBring w h ts p) e)
+      each : (p : ℕ) → brought? (piecesBring facing w h (t ∷ ts) p) ≡ true → scans (screened w h (t .corners)) (p % w) (p / w) || brought? (piecesBring facing w h ts p) ≡ true
+      each p e = first-or _ _ _ (brought-scanned (counts facing (t .turned)) (screened w h (t .corners)) (p % w) (p / w)) (brought-either (candidate (counts facing (t .turned)) (screened w h (t .corners)) (p % w) (p / w)) (piecesBring facing w h ts p) e)
 
 -- a face brings depths to at most as many pixels of the image as the scans of its pieces offer
 pub brings-within : (sc : Scene) (f : Face) → count (λ p. brought? (brings sc f p)) (span 0 (sc .width * sc .height)) ≤ facePixels sc f
 unfolding brings facePixels
-brings-within sc f = pieces-within (sc .width) (sc .height) (facePieces sc f)
+brings-within sc f = pieces-within (sc .facing) (sc .width) (sc .height) (facePieces sc f)
 
 -- ---- at most two pieces
 
@@ -95,9 +103,9 @@ few-if : (b : Bool) {x y : List Piece} → Few x → Few y → Few (cond b x y)
 few-if true h k = h
 few-if false h k = k
 
-few-lone : (l0 l1 : Bool) (make : Corner Float → Corner Float → Corner Float → List Piece) → ((a b c : Corner Float) → Few (make a b c)) → (a b c : Corner Float) → Few (loneFirst l0 l1 make a b c)
+few-lone : (l0 l1 : Bool) (make : Bool → Corner Float → Corner Float → Corner Float → List Piece) → ((turned : Bool) (a b c : Corner Float) → Few (make turned a b c)) → (a b c : Corner Float) → Few (loneFirst l0 l1 make a b c)
 unfolding loneFirst
-few-lone l0 l1 make h a b c = few-if l0 (h a b c) (few-if l1 (h b a c) (h c a b))
+few-lone l0 l1 make h a b c = few-if l0 (h false a b c) (few-if l1 (h true b a c) (h false c a b))
 
 few-none : Few []
 few-none = record { most = omega arith }
@@ -106,13 +114,13 @@ few-whole : (a b c : Corner Float) → Few (whole a b c)
 unfolding whole
 few-whole a b c = record { most = omega arith }
 
-few-one : (a b c : Corner Float) → Few (onePiece a b c)
+few-one : (turned : Bool) (a b c : Corner Float) → Few (onePiece turned a b c)
 unfolding onePiece
-few-one a b c = record { most = omega arith }
+few-one turned a b c = record { most = omega arith }
 
-few-two : (a b c : Corner Float) → Few (twoPieces a b c)
+few-two : (turned : Bool) (a b c : Corner Float) → Few (twoPieces turned a b c)
 unfolding twoPieces
-few-two a b c = record { most = omega arith }
+few-two turned a b c = record { most = omega arith }
 
 few-mixed : (a b c : Corner Float) → Few (mixed a b c)
 unfolding mixed
@@ -145,7 +153,7 @@ charge-most sc f = few-pieces sc f
 
 pub piece-most : (w h : ℕ) (t : Piece) → piecePixels w h t ≤ w * h
 unfolding piecePixels
-piece-most w h t = omega (arith, count-most (λ p. scans (screened w h t) (p % w) (p / w)) (span 0 (w * h)), length-tabulate (λ i. i) 0 (w * h))
+piece-most w h t = omega (arith, count-most (λ p. scans (screened w h (t .corners)) (p % w) (p / w)) (span 0 (w * h)), length-tabulate (λ i. i) 0 (w * h))
 
 pub face-most : (sc : Scene) (f : Face) → facePixels sc f ≤ 2 * (sc .width * sc .height)
 unfolding facePixels

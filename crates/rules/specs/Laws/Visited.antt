@@ -22,6 +22,7 @@ use Rattle.cells.specs.Layer.{Layer, at}
 use Rattle.cells.specs.Steps.{Spans, written}
 use Rattle.cells.specs.Laws.Cells.{same-layer, at-written, at-other, spans-written}
 use Rattle.cells.specs.Laws.Pixels.{spans-reaches}
+use Rattle.rules.specs.declared.Facing.{Facing}
 use Rattle.rules.specs.Piece.{Piece}
 use Rattle.rules.specs.Scan.{screened, scans, candidate}
 use Rattle.rules.specs.Offers.{pieceBrings}
@@ -91,57 +92,57 @@ visited-same os os' (p ∷ ps) l e =
 -- ---- a scan that is stopped
 
 -- after no visit the layer is as it was
-pub stopped-none : (w h : ℕ) (t : Piece) (k : ℕ) (l : Layer) → stoppedAfter 0 w h t k l ≡ l
+pub stopped-none : (facing : Facing) (w h : ℕ) (t : Piece) (k : ℕ) (l : Layer) → stoppedAfter 0 facing w h t k l ≡ l
 unfolding stoppedAfter visited
-stopped-none w h t k l = refl
+stopped-none facing w h t k l = refl
 
 -- one visit more: the next pixel of `visits`, and no other
-pub stopped-more : (n w h : ℕ) (t : Piece) (k : ℕ) (l : Layer) → n < length (visits w h (screened w h t))
-    → stoppedAfter (n + 1) w h t k l ≡ visited (pieceCells w h t k) (getD (visits w h (screened w h t)) n 0 ∷ []) (stoppedAfter n w h t k l)
+pub stopped-more : (n : ℕ) (facing : Facing) (w h : ℕ) (t : Piece) (k : ℕ) (l : Layer) → n < length (visits w h (screened w h (t .corners)))
+    → stoppedAfter (n + 1) facing w h t k l ≡ visited (pieceCells facing w h t k) (getD (visits w h (screened w h (t .corners))) n 0 ∷ []) (stoppedAfter n facing w h t k l)
 unfolding stoppedAfter
-stopped-more n w h t k l m =
-    rw (add-one n, take-suc (visits w h (screened w h t)) n 0 m)
-    (visited-append (pieceCells w h t k) (take n (visits w h (screened w h t))) (getD (visits w h (screened w h t)) n 0 ∷ []) l)
+stopped-more n facing w h t k l m =
+    rw (add-one n, take-suc (visits w h (screened w h (t .corners))) n 0 m)
+    (visited-append (pieceCells facing w h t k) (take n (visits w h (screened w h (t .corners)))) (getD (visits w h (screened w h (t .corners))) n 0 ∷ []) l)
 
 -- not stopped: after as many visits as the piece has pixels, or more, the piece is painted
-pub stopped-all : (n w h : ℕ) (t : Piece) (k : ℕ) (l : Layer) → Spans l (w * h) → piecePixels w h t ≤ n → stoppedAfter n w h t k l ≡ painted (pieceCells w h t k) (w * h) l
+pub stopped-all : (n : ℕ) (facing : Facing) (w h : ℕ) (t : Piece) (k : ℕ) (l : Layer) → Spans l (w * h) → piecePixels w h t ≤ n → stoppedAfter n facing w h t k l ≡ painted (pieceCells facing w h t k) (w * h) l
 unfolding stoppedAfter pieceCells pieceBrings candidate numbered
-stopped-all n w h t k l s m =
-    rw (take-all n (visits w h (screened w h t)) (omega (arith, visits-many w h t)))
-    (visited-painted (pieceCells w h t k) (visits w h (screened w h t)) l (w * h) s (λ p b. go p b (scans (screened w h t) (p % w) (p / w)) refl))
+stopped-all n facing w h t k l s m =
+    rw (take-all n (visits w h (screened w h (t .corners))) (omega (arith, visits-many w h t)))
+    (visited-painted (pieceCells facing w h t k) (visits w h (screened w h (t .corners))) l (w * h) s (λ p b. go p b (scans (screened w h (t .corners)) (p % w) (p / w)) refl))
   where
     -- a pixel that the scan does not hold is brought nothing
-    go : (p : ℕ) → p < w * h → (b : Bool) → scans (screened w h t) (p % w) (p / w) ≡ b
-        → (count (eqb p) (visits w h (screened w h t)) ≡ 1) ⊎ ((count (eqb p) (visits w h (screened w h t)) ≡ 0) × (pieceCells w h t k p ≡ []))
-    go p i true e = inl (visits-once w h (screened w h t) p ∙ rw (lt-ltb p (w * h) i, e))
-    go p i false e = inr (visits-once w h (screened w h t) p ∙ rw (lt-ltb p (w * h) i, e), rw e)
+    go : (p : ℕ) → p < w * h → (b : Bool) → scans (screened w h (t .corners)) (p % w) (p / w) ≡ b
+        → (count (eqb p) (visits w h (screened w h (t .corners))) ≡ 1) ⊎ ((count (eqb p) (visits w h (screened w h (t .corners))) ≡ 0) × (pieceCells facing w h t k p ≡ []))
+    go p i true e = inl (visits-once w h (screened w h (t .corners)) p ∙ rw (lt-ltb p (w * h) i, e))
+    go p i false e = inr (visits-once w h (screened w h (t .corners)) p ∙ rw (lt-ltb p (w * h) i, e), rw e)
 
 -- the pixels that the scan holds, each visited once in whatever order, leave the layer that its own order leaves
-pub order-free : (w h : ℕ) (t : Piece) (k : ℕ) (l : Layer) → Spans l (w * h) → (ps : List ℕ) → ((p : ℕ) → count (eqb p) ps ≡ cond (ltb p (w * h) && scans (screened w h t) (p % w) (p / w)) 1 0)
-    → visited (pieceCells w h t k) ps l ≡ visited (pieceCells w h t k) (visits w h (screened w h t)) l
-order-free w h t k l s ps e = any-order (pieceCells w h t k) ps (visits w h (screened w h t)) l (w * h) s (λ p. e p ∙ sym (visits-once w h (screened w h t) p))
+pub order-free : (facing : Facing) (w h : ℕ) (t : Piece) (k : ℕ) (l : Layer) → Spans l (w * h) → (ps : List ℕ) → ((p : ℕ) → count (eqb p) ps ≡ cond (ltb p (w * h) && scans (screened w h (t .corners)) (p % w) (p / w)) 1 0)
+    → visited (pieceCells facing w h t k) ps l ≡ visited (pieceCells facing w h t k) (visits w h (screened w h (t .corners))) l
+order-free facing w h t k l s ps e = any-order (pieceCells facing w h t k) ps (visits w h (screened w h (t .corners))) l (w * h) s (λ p. e p ∙ sym (visits-once w h (screened w h (t .corners)) p))
 
 -- row by row among them
-pub rows-leave-the-same : (w h : ℕ) (t : Piece) (k : ℕ) (l : Layer) → Spans l (w * h)
-    → visited (pieceCells w h t k) (filter (λ p. scans (screened w h t) (p % w) (p / w)) (span 0 (w * h))) l ≡ visited (pieceCells w h t k) (visits w h (screened w h t)) l
-rows-leave-the-same w h t k l s =
-    order-free w h t k l s (filter held (span 0 (w * h))) (λ p. count-filter held p (span 0 (w * h)) ∙ ap (λ (n : ℕ). cond (held p) n 0) (count-number p (w * h)) ∙ cond-both (ltb p (w * h)) (held p))
+pub rows-leave-the-same : (facing : Facing) (w h : ℕ) (t : Piece) (k : ℕ) (l : Layer) → Spans l (w * h)
+    → visited (pieceCells facing w h t k) (filter (λ p. scans (screened w h (t .corners)) (p % w) (p / w)) (span 0 (w * h))) l ≡ visited (pieceCells facing w h t k) (visits w h (screened w h (t .corners))) l
+rows-leave-the-same facing w h t k l s =
+    order-free facing w h t k l s (filter held (span 0 (w * h))) (λ p. count-filter held p (span 0 (w * h)) ∙ ap (λ (n : ℕ). cond (held p) n 0) (count-number p (w * h)) ∙ cond-both (ltb p (w * h)) (held p))
   where
     held : ℕ → Bool
-    held p = scans (screened w h t) (p % w) (p / w)
+    held p = scans (screened w h (t .corners)) (p % w) (p / w)
 
 -- stopped or not: only what is brought to the pixels that the scan holds counts
-pub stopped-same : (n w h : ℕ) (t : Piece) (k : ℕ) (l : Layer) (os : ℕ → List Cell) → ((p : ℕ) → p < w * h → scans (screened w h t) (p % w) (p / w) ≡ true → os p ≡ pieceCells w h t k p)
-    → visited os (take n (visits w h (screened w h t))) l ≡ stoppedAfter n w h t k l
+pub stopped-same : (n : ℕ) (facing : Facing) (w h : ℕ) (t : Piece) (k : ℕ) (l : Layer) (os : ℕ → List Cell) → ((p : ℕ) → p < w * h → scans (screened w h (t .corners)) (p % w) (p / w) ≡ true → os p ≡ pieceCells facing w h t k p)
+    → visited os (take n (visits w h (screened w h (t .corners)))) l ≡ stoppedAfter n facing w h t k l
 unfolding stoppedAfter
-stopped-same n w h t k l os e =
-    visited-same os (pieceCells w h t k) (take n (visits w h (screened w h t))) l
-    (λ p m. go p m (ltb p (w * h) && scans (screened w h t) (p % w) (p / w)) refl)
+stopped-same n facing w h t k l os e =
+    visited-same os (pieceCells facing w h t k) (take n (visits w h (screened w h (t .corners)))) l
+    (λ p m. go p m (ltb p (w * h) && scans (screened w h (t .corners)) (p % w) (p / w)) refl)
   where
-    go : (p : ℕ) → 0 < count (eqb p) (take n (visits w h (screened w h t))) → (b : Bool) → ltb p (w * h) && scans (screened w h t) (p % w) (p / w) ≡ b → os p ≡ pieceCells w h t k p
+    go : (p : ℕ) → 0 < count (eqb p) (take n (visits w h (screened w h (t .corners)))) → (b : Bool) → ltb p (w * h) && scans (screened w h (t .corners)) (p % w) (p / w) ≡ b → os p ≡ pieceCells facing w h t k p
     go p m true i = let j = both (ltb p (w * h)) _ i in e p (ltb-true p (w * h) (j .0)) (j .1)
     go p m false i =
-        let parts = count-both (eqb p) (take n (visits w h (screened w h t))) (drop n (visits w h (screened w h t))) in
-        let whole = ap (count (eqb p)) (take-append-drop n (visits w h (screened w h t))) in
-        let none : count (eqb p) (visits w h (screened w h t)) ≡ 0 = visits-once w h (screened w h t) p ∙ rw i in
+        let parts = count-both (eqb p) (take n (visits w h (screened w h (t .corners)))) (drop n (visits w h (screened w h (t .corners)))) in
+        let whole = ap (count (eqb p)) (take-append-drop n (visits w h (screened w h (t .corners)))) in
+        let none : count (eqb p) (visits w h (screened w h (t .corners))) ≡ 0 = visits-once w h (screened w h (t .corners)) p ∙ rw i in
         absurd (omega arith)

@@ -66,6 +66,6 @@ visits-once w h s p =
     ∙ cond-both (ltb p (w * h)) (scans s (p % w) (p / w))
 
 -- as many as the load counts pixels of the piece
-pub visits-many : (w h : ℕ) (t : Piece) → length (visits w h (screened w h t)) ≡ piecePixels w h t
+pub visits-many : (w h : ℕ) (t : Piece) → length (visits w h (screened w h (t .corners))) ≡ piecePixels w h t
 unfolding visits piecePixels
-visits-many w h t = length-filter (λ p. scans (screened w h t) (p % w) (p / w)) (columnwise w h) ∙ columnwise-count (λ p. scans (screened w h t) (p % w) (p / w)) w h
+visits-many w h t = length-filter (λ p. scans (screened w h (t .corners)) (p % w) (p / w)) (columnwise w h) ∙ columnwise-count (λ p. scans (screened w h (t .corners)) (p % w) (p / w)) w h

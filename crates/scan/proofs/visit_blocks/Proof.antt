@@ -5,6 +5,7 @@ use native.Mathlib.Omega.{arith}
 use Rattle.cells.specs.Layer.{layer}
 use Rattle.pixels.specs.Pixel.{centre}
 use Rattle.boxes.specs.Answer.{screenOf}
+use Rattle.lanes.specs.Answer.{within}
 use Rattle.blocks.specs.Rows.{depthCells}
 use Rattle.blocks.proofs.Centres.{on-4}
 use Rattle.blocks.proofs.Going.{Going, going-first, going-by}
@@ -12,11 +13,11 @@ use Rattle.scan.proofs.visit_blocks.Statement.{statement}
 use Rattle.scan.proofs.visit_blocks.Tie as tie
 
 abbrev Inv-loop : tie.InvT-loop
-Inv-loop pix2tri₀ pix2depth₀ w h s number ix y0 y1 end qx iy₀ qy₀ pix2tri pix2depth iy qy =
-    Going (depthCells (screenOf s) number w) w (w * h) ix y0 y1 (layer pix2tri₀ pix2depth₀) (layer pix2tri pix2depth) iy × (qy ≡ centre iy)
+Inv-loop pix2tri₀ pix2depth₀ w h s side number ix y0 y1 end qx iy₀ qy₀ pix2tri pix2depth iy qy =
+    Going (depthCells (within side) (screenOf s) number w) w (w * h) ix y0 y1 (layer pix2tri₀ pix2depth₀) (layer pix2tri pix2depth) iy × (qy ≡ centre iy)
 
 abbrev μ-loop : tie.MeasureT-loop
-μ-loop pix2tri₀ pix2depth₀ w h s number ix y0 y1 end qx iy₀ qy₀ pix2tri pix2depth iy qy = end - iy
+μ-loop pix2tri₀ pix2depth₀ w h s side number ix y0 y1 end qx iy₀ qy₀ pix2tri pix2depth iy qy = end - iy
 
 blocks-end-requires : tie.Need-blocks-end-requires Inv-loop μ-loop
 blocks-end-requires c κs = (c .before .before .pre .1 .1 .1, c .before .before .pre .0 .h-most)
@@ -31,7 +32,7 @@ loop-holds : tie.Need-loop-holds Inv-loop μ-loop
 loop-holds c =
     let f = c .before .before .before .before .before in
     let a = f .args in
-    (going-first (depthCells (screenOf (a .s)) (a .number) (a .w)) (a .w) (a .w * a .h) (a .ix) (a .y0) (a .y1) (layer (a .pix2tri .now) (a .pix2depth .now)) (f .pre .1 .1 .1 .order) (f .pre .1 .0), c .centre2 .ensures)
+    (going-first (depthCells (within (a .side)) (screenOf (a .s)) (a .number) (a .w)) (a .w) (a .w * a .h) (a .ix) (a .y0) (a .y1) (layer (a .pix2tri .now) (a .pix2depth .now)) (f .pre .1 .1 .1 .order) (f .pre .1 .0), c .centre2 .ensures)
 
 visit-four-requires : tie.Need-visit-four-requires Inv-loop μ-loop
 visit-four-requires c κs =
@@ -49,7 +50,7 @@ loop-again c =
     let f = c .before .before .before .before .before .before .before .before .before .before .before .before .before .before in
     let a = f .args in
     let here = c .before .before .before .before .before .before .before .before .before .before .before .blocks-end .ensures (m .loop .iy) (omega arith) in
-    (going-by (depthCells (screenOf (a .s)) (a .number) (a .w)) (a .w) (a .w * a .h) (a .ix) (a .y0) (a .y1) (layer (a .pix2tri .now) (a .pix2depth .now)) (f .pre .1 .1 .1 .order) (layer (m .loop .pix2tri) (m .loop .pix2depth)) _ (m .loop .iy) (m .loop .iy + 4) (omega (arith, here .0)) (omega arith) (m .loop .inv .0) (c .before .before .before .before .visit-four .ensures), on-4 (m .loop .qy) (m .loop .iy) (m .loop .inv .1) (omega (arith, here .1, f .pre .0 .h-most)))
+    (going-by (depthCells (within (a .side)) (screenOf (a .s)) (a .number) (a .w)) (a .w) (a .w * a .h) (a .ix) (a .y0) (a .y1) (layer (a .pix2tri .now) (a .pix2depth .now)) (f .pre .1 .1 .1 .order) (layer (m .loop .pix2tri) (m .loop .pix2depth)) _ (m .loop .iy) (m .loop .iy + 4) (omega (arith, here .0)) (omega arith) (m .loop .inv .0) (c .before .before .before .before .visit-four .ensures), on-4 (m .loop .qy) (m .loop .iy) (m .loop .inv .1) (omega (arith, here .1, f .pre .0 .h-most)))
 
 same-length : tie.Need-same-length Inv-loop μ-loop
 same-length c = c .before .loop .inv .0 .spans .numbers ∙ sym (c .before .before .before .before .before .before .before .pre .1 .0 .numbers)

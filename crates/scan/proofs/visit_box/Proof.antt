@@ -5,23 +5,24 @@ use mathlib.Core.Path.{sym, _∙_}
 use native.Mathlib.Omega.{arith}
 use Rattle.cells.specs.Layer.{layer}
 use Rattle.boxes.specs.Answer.{screenOf}
+use Rattle.lanes.specs.Answer.{within}
 use Rattle.blocks.specs.Rows.{depthCells}
 use Rattle.scan.proofs.Columns.{Stopping, stopping-first, stopping-next, all-columns}
 use Rattle.scan.proofs.visit_box.Statement.{statement}
 use Rattle.scan.proofs.visit_box.Tie as tie
 
 abbrev Inv-loop : tie.InvT-loop
-Inv-loop pix2tri₀ pix2depth₀ w h s number b n rows left₀ ix₀ pix2tri pix2depth left ix =
-    Stopping (depthCells (screenOf s) number w) w (w * h) b n (layer pix2tri₀ pix2depth₀) (layer pix2tri pix2depth) ix left
+Inv-loop pix2tri₀ pix2depth₀ w h s side number b n rows left₀ ix₀ pix2tri pix2depth left ix =
+    Stopping (depthCells (within side) (screenOf s) number w) w (w * h) b n (layer pix2tri₀ pix2depth₀) (layer pix2tri pix2depth) ix left
 
 abbrev μ-loop : tie.MeasureT-loop
-μ-loop pix2tri₀ pix2depth₀ w h s number b n rows left₀ ix₀ pix2tri pix2depth left ix = b .x1 - ix
+μ-loop pix2tri₀ pix2depth₀ w h s side number b n rows left₀ ix₀ pix2tri pix2depth left ix = b .x1 - ix
 
 loop-holds : tie.Need-loop-holds Inv-loop μ-loop
 loop-holds c =
     let f = c .before .before .before in
     let a = f .args in
-    stopping-first (depthCells (screenOf (a .s)) (a .number) (a .w)) (a .w) (a .w * a .h) (a .b) (a .n) (layer (a .pix2tri .now) (a .pix2depth .now)) (f .pre .1 .0) (f .pre .1 .1 .0 .order)
+    stopping-first (depthCells (within (a .side)) (screenOf (a .s)) (a .number) (a .w)) (a .w) (a .w * a .h) (a .b) (a .n) (layer (a .pix2tri .now) (a .pix2depth .now)) (f .pre .1 .0) (f .pre .1 .1 .0 .order)
 
 add-visit-column : tie.Need-add-visit-column Inv-loop μ-loop
 add-visit-column c = let f = c .before .before .before .before .before .before .before .before .before .before in record { fits = omega (arith, c .before .before .before .allowed .ensures .rows-most, f .pre .1 .1 .1 .order, f .pre .1 .1 .1 .most, f .pre .0 .h-most) }
@@ -42,7 +43,7 @@ loop-again : tie.Need-loop-again Inv-loop μ-loop
 loop-again c =
     let m = c .before .before .before .before .before .before .before .before .before .before .before in
     let a = c .before .before .before .before .before .before .before .before .before .before .before .before .before .before .before .args in
-    stopping-next (depthCells (screenOf (a .s)) (a .number) (a .w)) (a .w) (a .w * a .h) (a .b) (a .n) (layer (a .pix2tri .now) (a .pix2depth .now)) (layer (m .loop .pix2tri) (m .loop .pix2depth)) _ (m .loop .ix) (m .loop .left) (c .before .before .before .before .before .before .before .before .allowed .result) (omega arith) (m .loop .inv) (c .before .before .before .before .before .before .before .before .allowed .ensures) (c .before .before .before .before .visit-column .ensures)
+    stopping-next (depthCells (within (a .side)) (screenOf (a .s)) (a .number) (a .w)) (a .w) (a .w * a .h) (a .b) (a .n) (layer (a .pix2tri .now) (a .pix2depth .now)) (layer (m .loop .pix2tri) (m .loop .pix2depth)) _ (m .loop .ix) (m .loop .left) (c .before .before .before .before .before .before .before .before .allowed .result) (omega arith) (m .loop .inv) (c .before .before .before .before .before .before .before .before .allowed .ensures) (c .before .before .before .before .visit-column .ensures)
 
 same-length : tie.Need-same-length Inv-loop μ-loop
 same-length c = c .before .before .loop .inv .spans .numbers ∙ sym (c .before .before .before .before .before .before .pre .1 .0 .numbers)
@@ -54,7 +55,7 @@ returns : tie.Need-returns Inv-loop μ-loop
 returns c =
     let m = c .before .before in
     let a = c .before .before .before .before .before .before .args in
-    all-columns (depthCells (screenOf (a .s)) (a .number) (a .w)) (a .w) (a .w * a .h) (a .b) (a .n) (layer (a .pix2tri .now) (a .pix2depth .now)) (layer (m .loop .pix2tri) (m .loop .pix2depth)) (m .loop .ix) (m .loop .left) (omega arith) (m .loop .inv)
+    all-columns (depthCells (within (a .side)) (screenOf (a .s)) (a .number) (a .w)) (a .w) (a .w * a .h) (a .b) (a .n) (layer (a .pix2tri .now) (a .pix2depth .now)) (layer (m .loop .pix2tri) (m .loop .pix2depth)) (m .loop .ix) (m .loop .left) (omega arith) (m .loop .inv)
 
 pub visit-box-spec : {M : Type 1} → statement M
 visit-box-spec =

@@ -4,6 +4,7 @@ use Prim.Native.Nat.{_*_}
 use native.Mathlib.Omega.{arith}
 use Rattle.cells.specs.Layer.{layer}
 use Rattle.boxes.specs.Answer.{screenOf}
+use Rattle.lanes.specs.Answer.{within}
 use Rattle.blocks.specs.Rows.{depthCells}
 use Rattle.blocks.proofs.Going.{going-of, going-rest, going-last}
 use Rattle.scan.proofs.visit_column.Statement.{statement}
@@ -17,14 +18,14 @@ visit-rows-requires c κs =
     let f = c .before .before .before .before .before .before .before .before .before .before .before .before in
     let a = f .args in
     let done = c .before .before .before .before .before .before .before .visit-blocks .ensures in
-    let g = going-of (depthCells (screenOf (a .s)) (a .number) (a .w)) (a .w) (a .w * a .h) (a .ix) (a .y0) (a .y1) (layer (a .pix2tri .now) (a .pix2depth .now)) (f .pre .1 .1 .1 .order) (f .pre .1 .0) (done .0) (done .1) in
+    let g = going-of (depthCells (within (a .side)) (screenOf (a .s)) (a .number) (a .w)) (a .w) (a .w * a .h) (a .ix) (a .y0) (a .y1) (layer (a .pix2tri .now) (a .pix2depth .now)) (f .pre .1 .1 .1 .order) (f .pre .1 .0) (done .0) (done .1) in
     (f .pre .0, (g .spans, (f .pre .1 .1 .0, record { order = omega arith; most = f .pre .1 .1 .1 .most })))
 
 returns : tie.Need-returns
 returns c =
     let f = c .before .before .before .before .before .before .before .before .before .before .before .before .before .before .before .before .before in
     let a = f .args in
-    let os = depthCells (screenOf (a .s)) (a .number) (a .w) in
+    let os = depthCells (within (a .side)) (screenOf (a .s)) (a .number) (a .w) in
     let l = layer (a .pix2tri .now) (a .pix2depth .now) in
     let order = f .pre .1 .1 .1 .order in
     let done = c .before .before .before .before .before .before .before .before .before .before .before .before .visit-blocks in
@@ -36,7 +37,7 @@ returns-2 : tie.Need-returns-2
 returns-2 c =
     let f = c .before .before .before .before .before .before .before .before .before .before in
     let a = f .args in
-    let os = depthCells (screenOf (a .s)) (a .number) (a .w) in
+    let os = depthCells (within (a .side)) (screenOf (a .s)) (a .number) (a .w) in
     let l = layer (a .pix2tri .now) (a .pix2depth .now) in
     let order = f .pre .1 .1 .1 .order in
     let done = c .before .before .before .before .before .visit-blocks in

@@ -4,23 +4,24 @@ use mathlib.Core.Path.{sym, _∙_}
 use native.Mathlib.Omega.{arith}
 use Rattle.cells.specs.Layer.{layer}
 use Rattle.boxes.specs.Answer.{screenOf}
+use Rattle.lanes.specs.Answer.{within}
 use Rattle.blocks.specs.Rows.{depthCells}
 use Rattle.blocks.proofs.Going.{Going, going-first, going-on, going-last}
 use Rattle.scan.proofs.visit_rows.Statement.{statement}
 use Rattle.scan.proofs.visit_rows.Tie as tie
 
 abbrev Inv-loop : tie.InvT-loop
-Inv-loop pix2tri₀ pix2depth₀ w h s number ix y0 y1 iy₀ pix2tri pix2depth iy =
-    Going (depthCells (screenOf s) number w) w (w * h) ix y0 y1 (layer pix2tri₀ pix2depth₀) (layer pix2tri pix2depth) iy × (iy ≤ y1)
+Inv-loop pix2tri₀ pix2depth₀ w h s side number ix y0 y1 iy₀ pix2tri pix2depth iy =
+    Going (depthCells (within side) (screenOf s) number w) w (w * h) ix y0 y1 (layer pix2tri₀ pix2depth₀) (layer pix2tri pix2depth) iy × (iy ≤ y1)
 
 abbrev μ-loop : tie.MeasureT-loop
-μ-loop pix2tri₀ pix2depth₀ w h s number ix y0 y1 iy₀ pix2tri pix2depth iy = y1 - iy
+μ-loop pix2tri₀ pix2depth₀ w h s side number ix y0 y1 iy₀ pix2tri pix2depth iy = y1 - iy
 
 loop-holds : tie.Need-loop-holds Inv-loop μ-loop
 loop-holds c =
     let f = c .before .before in
     let a = f .args in
-    (going-first (depthCells (screenOf (a .s)) (a .number) (a .w)) (a .w) (a .w * a .h) (a .ix) (a .y0) (a .y1) (layer (a .pix2tri .now) (a .pix2depth .now)) (f .pre .1 .1 .1 .order) (f .pre .1 .0), f .pre .1 .1 .1 .order)
+    (going-first (depthCells (within (a .side)) (screenOf (a .s)) (a .number) (a .w)) (a .w) (a .w * a .h) (a .ix) (a .y0) (a .y1) (layer (a .pix2tri .now) (a .pix2depth .now)) (f .pre .1 .1 .1 .order) (f .pre .1 .0), f .pre .1 .1 .1 .order)
 
 visit-requires : tie.Need-visit-requires Inv-loop μ-loop
 visit-requires c κs =
@@ -35,7 +36,7 @@ loop-again c =
     let m = c .before .before .before .before .before .before .before .before in
     let f = c .before .before .before .before .before .before .before .before .before .before .before in
     let a = f .args in
-    (going-on (depthCells (screenOf (a .s)) (a .number) (a .w)) (a .w) (a .w * a .h) (a .ix) (a .y0) (a .y1) (layer (a .pix2tri .now) (a .pix2depth .now)) (f .pre .1 .1 .1 .order) (layer (m .loop .pix2tri) (m .loop .pix2depth)) _ (m .loop .iy) (omega arith) (m .loop .inv .0) (c .before .before .before .before .visit .ensures), omega arith)
+    (going-on (depthCells (within (a .side)) (screenOf (a .s)) (a .number) (a .w)) (a .w) (a .w * a .h) (a .ix) (a .y0) (a .y1) (layer (a .pix2tri .now) (a .pix2depth .now)) (f .pre .1 .1 .1 .order) (layer (m .loop .pix2tri) (m .loop .pix2depth)) _ (m .loop .iy) (omega arith) (m .loop .inv .0) (c .before .before .before .before .visit .ensures), omega arith)
 
 same-length : tie.Need-same-length Inv-loop μ-loop
 same-length c = c .before .loop .inv .0 .spans .numbers ∙ sym (c .before .before .before .before .pre .1 .0 .numbers)
@@ -48,7 +49,7 @@ returns c =
     let m = c .before in
     let f = c .before .before .before .before in
     let a = f .args in
-    going-last (depthCells (screenOf (a .s)) (a .number) (a .w)) (a .w) (a .w * a .h) (a .ix) (a .y0) (a .y1) (layer (a .pix2tri .now) (a .pix2depth .now)) (f .pre .1 .1 .1 .order) (layer (m .loop .pix2tri) (m .loop .pix2depth)) (m .loop .iy) (omega arith) (m .loop .inv .0)
+    going-last (depthCells (within (a .side)) (screenOf (a .s)) (a .number) (a .w)) (a .w) (a .w * a .h) (a .ix) (a .y0) (a .y1) (layer (a .pix2tri .now) (a .pix2depth .now)) (f .pre .1 .1 .1 .order) (layer (m .loop .pix2tri) (m .loop .pix2depth)) (m .loop .iy) (omega arith) (m .loop .inv .0)
 
 pub visit-rows-spec : {M : Type 1} → statement M
 visit-rows-spec =

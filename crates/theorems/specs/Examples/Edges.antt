@@ -6,7 +6,7 @@ use lib.Ieee.{Float, nan, ofBits, ofInt, add, sub, mul, div, neg, lt, le, eq}
 use Rattle.lists.specs.Lists.{tabulate, every}
 use Rattle.questions.specs.Questions.{Outcome, outcome, firstNo, sizes, channels, groups, exact, namesFace}
 use Rattle.geometry.specs.Formula.{sumOf, cross2, areas, total, overTotal, row, over}
-use Rattle.geometry.specs.Leaf.{weighed, weighedAll, cornerWeights, divided, project}
+use Rattle.geometry.specs.Leaf.{weighed, weighedAll, withSum, weighedWithSum, cornerWeights, divided, project}
 use Rattle.meshes.specs.Mesh.{vertexAt, faceAt}
 use Rattle.meshes.specs.View.{viewOf, named}
 use Rattle.pixels.specs.Pixel.{centre, centreOf}
@@ -21,7 +21,7 @@ use Rattle.sequences.specs.Example.{zero, one, quarter, matrix, corners}
 
 -- faces of those vertices, 2 × 1, one channel, values 1, 0, incoming 1, 1; the buffers hold 9 and NaN before
 unfoldable pub typedOf : List ℕ → List Float → List ℕ → Outcome EdgeBuffers
-unfolding firstNo sizes channels groups exact every namesFace tabulate vertexAt faceAt named centre centreOf edgeAt cross2 areas total overTotal row over weighed weighedAll cornerWeights divided project allAtLeastZero allInside allThree projectFace weightsIn contains present projects firstInSecond secondInFirst typeOf answered allAnswered sumOf channelTerm dldr exactPixels edgesOf edgeCode edgeTyping add sub mul div neg lt le eq ofBits ofInt
+unfolding firstNo sizes channels groups exact every namesFace tabulate vertexAt faceAt named centre centreOf edgeAt cross2 areas total overTotal row over weighed weighedAll withSum weighedWithSum cornerWeights divided project allAtLeastZero allInside allThree projectFace weightsIn contains present projects firstInSecond secondInFirst typeOf answered allAnswered sumOf channelTerm dldr exactPixels edgesOf edgeCode edgeTyping add sub mul div neg lt le eq ofBits ofInt
 typedOf tri xyz map =
     edgeTyping tri map 1 (edgeView (viewOf tri map) (matrix zero one) xyz 2) (pixelValues (one ∷ zero ∷ []) (one ∷ one ∷ []) 1)
     (edgeBuffers (axisBuffers [] []) (axisBuffers (9 ∷ []) (nan ∷ [])))

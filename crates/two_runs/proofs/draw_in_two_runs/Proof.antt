@@ -15,7 +15,7 @@ slice-aggregate-draw-run c =
 cast-draw-run : tie.Need-cast-draw-run
 cast-draw-run c =
     let s = c .before .before .before .before .before .before .before .before .before .before .before .before .before .before .before .before .before in
-    record { fits = omega (arith, s .pre .1 .0, few-faces (s .args .tri2vtx .now) (s .args .vtx2xyz .now) (s .args .img-w) (s .args .img-h) (s .args .transform-world2ndc .now) (s .pre .0)) }
+    record { fits = omega (arith, s .pre .1 .0, few-faces (s .args .tri2vtx .now) (s .args .vtx2xyz .now) (s .args .img-w) (s .args .img-h) (s .args .transform-world2ndc .now) (s .args .facing) (s .pre .0)) }
 
 returns : tie.Need-returns
 returns c =
@@ -23,7 +23,7 @@ returns c =
     let second = joined .before .before .before .before .before .before .before .before .before in
     let first = second .before .before .before .before .before .before .before .before in
     let s = first .before .before .before .before .before .before .before .before .before .before in
-    runs-joined (s .args .tri2vtx .now) (s .args .vtx2xyz .now) (s .args .img-w) (s .args .img-h) (s .args .transform-world2ndc .now) (s .pre .0)
+    runs-joined (s .args .tri2vtx .now) (s .args .vtx2xyz .now) (s .args .img-w) (s .args .img-h) (s .args .transform-world2ndc .now) (s .args .facing) (s .pre .0)
     (layer (s .args .left-pix2tri .now) (s .args .left-pix2depth .now)) (layer (s .args .right-pix2tri .now) (s .args .right-pix2depth .now)) (s .args .count)
     (s .pre .1 .0) (s .pre .1 .1 .0) (s .pre .1 .1 .1) (first .draw-run .ensures) (second .draw-run2 .ensures) (joined .join .ensures)
 

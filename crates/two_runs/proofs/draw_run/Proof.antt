@@ -8,7 +8,7 @@ returns : tie.Need-returns
 returns c =
     let drawn = c .before .before .before .before in
     let cleared = drawn .before .before .before .before .before .before .before in
-    run-drawn _ _ _ _ _ (layer _ _) _ (cleared .clear .ensures) (drawn .pix2tri-by-rasterization .ensures)
+    run-drawn _ _ _ _ _ _ (layer _ _) _ (cleared .clear .ensures) (drawn .pix2tri-by-rasterization .ensures)
 
 pub draw-run-spec : {M : Type 1} → statement M
 draw-run-spec =
