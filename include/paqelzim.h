@@ -10,8 +10,8 @@
  *
  * A call that can refuse answers a code, alone or as the first field of a struct: 0 where it is accepted, else the number of the first of its questions, in the
  * order of its comment, that is answered no, and then nothing has been written. An accepted call writes the places that its
- * comment names; every other place keeps its bits. Nothing is stored there, but by two calls whose comments say so, which
- * store what it held again. That a NaN keeps its payload is tested and not proved: to the proofs there is one NaN.
+ * comment names; every other place keeps its bits. Nothing is stored there, but by paqelzim_join, which stores what it held
+ * again. That a NaN keeps its payload is tested and not proved: to the proofs there is one NaN.
  *   1  are width and height from 1 to 4,096?
  *   2  are channels per pixel from 1 to 16?
  *   3  are vertex and face slices multiples of 3, for at most 1,048,576 vertices and as many faces?
@@ -48,15 +48,32 @@ uint32_t paqelzim_clear(uint32_t *pix2tri, size_t pix2tri_len,
 /* Draws the faces of tri2vtx (three vertex numbers each) on a layer, in list order, numbered from first on. Vertices
  * are three numbers each in vtx2xyz; transform_world2ndc has sixteen, column by column. A depth is written, with the
  * face's number, where it is greater than the stored one: an equal depth or a NaN never is, and a stored NaN stays.
- * Writes: pix2tri and pix2depth, at the pixels to which a face brings a greater depth. Most pixels are stored four at a
- * time, the others of the four again, with what they held.
- * Questions: 1; 3; 4: pix2tri and pix2depth have img_w * img_h elements; 5; 6. */
+ *
+ * facing is 0 for all faces; any other number draws front pieces only. A face is front where its corners run clockwise on
+ * the picture:
+ *
+ *          p0                    p0
+ *         /  \                  /  \
+ *        /    \                /    \
+ *      p2 <--- p1             p1 ---> p2
+ *
+ *        front                  back
+ *
+ * It is asked of each piece at each pixel: the doubled signed area of the piece's corners, as the corner weights at the
+ * pixel's centre sum it in pixels, rows running down, is above 0. Where a face is cut and its vertex 1 is taken as the one
+ * alone on its side of the near plane, the pieces list their corners turned round, and it is below 0. With front pieces
+ * only, any other piece brings the pixel no depth and covers nothing.
+ * A body whose faces run counter-clockwise as seen from outside, under a matrix that does not mirror the picture, shows the
+ * faces that are turned away; exchange two corners of each face to see those turned to the camera. A matrix that mirrors
+ * the picture turns front and back round.
+ * Writes: pix2tri and pix2depth, at the pixels to which a face brings a greater depth.
+ * Questions: 1; 3; 4: pix2tri and pix2depth have img_w * img_h elements; 5; 6. No facing is refused. */
 uint32_t paqelzim_pix2tri_by_rasterization(uint32_t *pix2tri, size_t pix2tri_len,
                                            float *pix2depth, size_t pix2depth_len,
                                            const uint32_t *tri2vtx, size_t tri2vtx_len,
                                            const float *vtx2xyz, size_t vtx2xyz_len,
                                            size_t img_w, size_t img_h,
-                                           const float *transform_world2ndc, uint32_t first);
+                                           const float *transform_world2ndc, uint32_t first, uint32_t facing);
 
 /* What paqelzim_drawing_load answers: its code; the pieces of all faces after clipping, none, one or two for each; and
  * the pixels that the scans of these pieces offer, a pixel as often as it is offered. Both are 0 where the call refuses. */
@@ -67,9 +84,10 @@ typedef struct {
 } paqelzim_DrawingLoad;
 
 /* Tells how much work it is to draw the faces of tri2vtx, without drawing them and without a layer: what
- * paqelzim_pix2tri_by_rasterization clips and scans for the same mesh, size and matrix. A piece is scanned at the pixels
- * whose centre lies in the closed box of its corners; one with a corner not finite in pixels counts as a piece, and is
- * offered none. A face costs its projection, its clipping and its boxes, however many pixels they hold.
+ * paqelzim_pix2tri_by_rasterization clips and scans for the same mesh, size and matrix, with either facing: a piece that
+ * is not front is scanned all the same. A piece is scanned at the pixels whose centre lies in the closed box of its
+ * corners; one with a corner not finite in pixels counts as a piece, and is offered none. A face costs its projection, its
+ * clipping and its boxes, however many pixels they hold.
  * Writes: nothing.
  * Questions: 1; 3; 6. */
 paqelzim_DrawingLoad paqelzim_drawing_load(const uint32_t *tri2vtx, size_t tri2vtx_len,

@@ -2,7 +2,7 @@
 //! repository, and has it compiled unchanged from there. Where it is not found, the comparison is left out.
 //! Of edgegrad.rs a second module has the places changed that 01 and 02 decide otherwise (docs/DIFFERENCES.md), and of
 //! pix2tri.rs one that also keeps its pieces, counts the pixels of the image that its scans offer (02, Point 6), and has its
-//! scan of one piece public (02, Point 7).
+//! scan of one piece public (02, Point 7). A third of pix2tri.rs does so too and asks each candidate how it faces (02, Point 8).
 use std::path::{Path, PathBuf};
 
 /// How often a place stands in a file, as listed and as changed.
@@ -52,6 +52,49 @@ const COUNTS: [Change; 3] = [
         1,
         "fn rasterize_projected_tri<Index>(",
         "pub fn rasterize_projected_tri<Index>(",
+    ),
+];
+
+/// A candidate asked how it faces, which the file does not ask: the weights give the doubled area with them, and a piece tells its
+/// scan the branch that it comes from.
+const FACING: [Change; 8] = [
+    (
+        1,
+        "    ndc: [[f32; 3]; 3],\n) where",
+        "    ndc: [[f32; 3]; 3],\n    branch: crate::reference::Branch,\n) where",
+    ),
+    (1, "let Some((b0, b1, b2)) =", "let Some((b0, b1, b2, s)) ="),
+    (
+        1,
+        "del_geo_core::tri2::barycentric_coords(",
+        "del_geo_core::tri2::barycentric_coords_and_area(",
+    ),
+    // after the weights' own test, before the depth
+    (
+        1,
+        "let depth = b0 * ndc[0][2]",
+        "if !crate::reference::faces(branch, s) { continue; } let depth = b0 * ndc[0][2]",
+    ),
+    // with clipping and without
+    (
+        2,
+        "i_tri_val, [ndc0, ndc1, ndc2]);",
+        "i_tri_val, [ndc0, ndc1, ndc2], crate::reference::Branch::Whole);",
+    ),
+    (
+        1,
+        "[ndc_a, ndc_ab, ndc_ac],",
+        "[ndc_a, ndc_ab, ndc_ac], crate::reference::Branch::One(ia),",
+    ),
+    (
+        1,
+        "[ndc_a, ndc_b, ndc_ac],",
+        "[ndc_a, ndc_b, ndc_ac], crate::reference::Branch::Two(ic),",
+    ),
+    (
+        1,
+        "[ndc_b, ndc_bc, ndc_ac],",
+        "[ndc_b, ndc_bc, ndc_ac], crate::reference::Branch::Two(ic),",
     ),
 ];
 
@@ -114,10 +157,13 @@ fn main() {
         path
     };
     let rules = write("edgegrad_by_the_rules.rs", by_the_rules(read(&edgegrad)));
-    let counting = write("pix2tri_counting.rs", with(&COUNTS, read(&pix2tri)));
+    let counts = with(&COUNTS, read(&pix2tri));
+    let faces = write("pix2tri_facing.rs", with(&FACING, counts.clone()));
+    let counting = write("pix2tri_counting.rs", counts);
     let modules = [
         module("pix2tri", &pix2tri),
         module("pix2tri_counting", &counting),
+        module("pix2tri_facing", &faces),
         module("edgegrad", &edgegrad),
         module("edgegrad_by_the_rules", &rules),
     ];

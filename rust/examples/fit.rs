@@ -1,5 +1,6 @@
 //! Reads how a connector housing sits, by fitting its mesh to a picture; then fits it again with a face deleted and
-//! with the mesh cut, drawn in runs and joined, and holds every number of every iteration to the same bits.
+//! with the mesh cut, drawn in runs and joined, and holds every number of every iteration to the same bits. It also shows the
+//! housing with and without its inner skin.
 //!
 //! `cargo run --release --offline --example fit -- FOLDER` writes the pictures there (`target/fit` where none is named).
 #[path = "fit/camera.rs"]
@@ -14,11 +15,14 @@ mod png;
 mod pose;
 #[path = "fit/scene.rs"]
 mod scene;
+#[path = "fit/skins.rs"]
+mod skins;
 
 use housing::CHANNELS;
 use pose::Pose;
 use scene::{Scene, Seen, Way};
-use std::path::PathBuf;
+use skins::Skins;
+use std::path::{Path, PathBuf};
 
 type Failure = Box<dyn std::error::Error>;
 
@@ -48,6 +52,7 @@ fn main() -> Result<(), Failure> {
     );
     std::fs::create_dir_all(&folder)?;
     pictures::write(&folder, &scene, &before.0, &after.0)?;
+    show_skins(&folder, &scene)?;
     println!("pictures in {}\n", folder.display());
     println!("the same fit in other ways, each iteration held to the bits of the one above:");
     for way in other_ways(&scene, &whole) {
@@ -55,6 +60,18 @@ fn main() -> Result<(), Failure> {
         println!("{way}: {numbers} numbers, all the same");
     }
     Ok(())
+}
+
+/// The thin-walled housing with and without its inner skin, one more picture.
+fn show_skins(folder: &Path, scene: &Scene) -> Result<(), Failure> {
+    let skins = Skins::new(scene)?;
+    let (changed, [inner, emptied]) = (skins.changed().count(), skins.lost());
+    println!(
+        "turned over, its foot open: front pieces only change {changed} of {} pixels, {inner} of which showed the\n\
+         inner skin from behind; {emptied} of them are then empty, and the others name another face",
+        skins.covered()
+    );
+    pictures::write_skins(folder, scene, &skins)
 }
 
 fn whole_fit(scene: &Scene) -> Result<Record, Failure> {
@@ -164,6 +181,35 @@ mod tests {
             let numbers = same_bits(&scene, &way, &whole).expect("the same bits");
             assert!(numbers > 10_000_000);
         }
+    }
+
+    /// Whether a face of the open housing is turned to the camera, which stands at the origin: clockwise as seen from outside.
+    fn is_turned_to_the_camera(skins: &Skins, face: u32) -> bool {
+        let corners = skins.tri2vtx.as_chunks::<3>().0[face as usize].map(|v| {
+            let xyz = skins.vtx2xyz.as_chunks::<3>().0[v as usize];
+            xyz.map(f64::from)
+        });
+        let sides = [corners[1], corners[2]].map(|p| pose::minus(p, corners[0]));
+        let inward = pose::cross(sides[0], sides[1]);
+        (0..3).map(|k| inward[k] * corners[0][k]).sum::<f64>() > 0.0
+    }
+
+    /// Front pieces leave out what is turned away, and nothing else changes.
+    #[test]
+    fn skins_by_their_geometry() {
+        let skins = Skins::new(&scene()).expect("accepted");
+        let held = |map: &[u32]| {
+            map.iter()
+                .copied()
+                .filter(|&face| face != u32::MAX)
+                .collect::<Vec<_>>()
+        };
+        let seen = |face: &u32| is_turned_to_the_camera(&skins, *face);
+        assert!(held(&skins.front).iter().all(seen));
+        let behind = held(&skins.all).iter().filter(|face| !seen(face)).count();
+        assert_eq!(skins.changed().count(), behind);
+        let [inner, emptied] = skins.lost();
+        assert!(inner > 1_000 && emptied > 1_000 && behind > emptied && skins.covered() > behind);
     }
 
     /// A face that holds pixels is missed when it is taken out.

@@ -16,6 +16,7 @@ mod ffi {
             img_h: usize,
             transform_world2ndc: *const f32,
             first: u32,
+            facing: u32,
         ) -> u32;
 
         pub fn paqelzim_drawing_load(
@@ -37,33 +38,94 @@ mod ffi {
     }
 }
 
+/// Which pieces a drawing takes. C passes a number: 0 for all faces, any other for front pieces only.
+///
+/// A face is front where its corners run clockwise on the picture:
+///
+/// ```text
+///      p0                    p0
+///     /  \                  /  \
+///    /    \                /    \
+///  p2 <--- p1             p1 ---> p2
+///
+///    front                  back
+/// ```
+///
+/// It is asked of each piece at each pixel: the doubled signed area of the piece's corners, as the corner weights at the pixel's
+/// centre sum it in pixels, rows running down, is above 0. Where a face is cut and its vertex 1 is taken as the one alone on
+/// its side of the near plane, the pieces list their corners turned round, and it is below 0: a cut face faces as it does whole.
+///
+/// Which faces of a body are front under the usual matrices, where x goes to the right, y up, and z towards the camera:
+///
+/// | matrix | body wound counter-clockwise, as seen from outside | body wound clockwise |
+/// |---|---|---|
+/// | the identity, or an orthographic one of positive scales | faces turned away from the camera | faces turned to it |
+/// | OpenGL's perspective, whose divisor is −z | faces turned away | faces turned to it |
+/// | as in `examples/fit/camera.rs`: the divisor is z, below 0, and the rows of x and y are negated | faces turned away | faces turned to it |
+///
+/// So a body of the usual winding, which is counter-clockwise, needs two corners of each face exchanged before
+/// [`Facing::Front`] shows its outer skin. A matrix that mirrors the picture, with x or y negated but not both, turns front and
+/// back round. Which of two front pieces is drawn is still told by the greater depth, and under OpenGL's matrix that is the
+/// farther one.
+#[derive(Clone, Copy, Debug, Default, PartialEq, Eq, Hash)]
+#[repr(u32)]
+pub enum Facing {
+    /// Every piece, whichever way its corners run.
+    #[default]
+    All = 0,
+    /// Only pieces that are front at the pixel. Another offers it no depth and covers nothing.
+    Front = 1,
+}
+
 /// Draws the faces of a mesh on a layer, in list order, numbered from `first` on.
 ///
 /// A face brings a pixel a depth where the pixel's centre lies in it, as it is projected by `transform_world2ndc` and
-/// clipped at the near plane. The depth is written, with the face's number, where it is greater than the stored one:
-/// an equal depth or a NaN never is, and a stored NaN stays.
+/// clipped at the near plane, and where `facing` takes it: [`Facing`] tells which pieces are front. The depth is written, with
+/// the face's number, where it is greater than the stored one: an equal depth or a NaN never is, and a stored NaN stays.
 ///
-/// Writes: both slices, at the pixels to which a face brings a greater depth. Most pixels are stored four at a time, the
-/// others of the four again, with what they held.
+/// Writes: both slices, at the pixels to which a face brings a greater depth.
 ///
 /// Questions: [1](Refusal::ImageSize), [3](Refusal::MeshSize), [4](Refusal::BufferLength): `pix2tri` and `pix2depth`
-/// have `img_w * img_h` elements, [5](Refusal::FaceNumbers), [6](Refusal::VertexNumber).
+/// have `img_w * img_h` elements, [5](Refusal::FaceNumbers), [6](Refusal::VertexNumber). None depends on the facing.
 ///
 /// ```
+/// use paqelzim::Facing;
 /// let identity: [f32; 16] = std::array::from_fn(|i| if i % 5 == 0 { 1. } else { 0. });
 /// let vtx2xyz = [-1., -1., 0.25, 3., -1., 0.25, -1., 3., 0.25];
 /// let (mut pix2tri, mut pix2depth) = ([u32::MAX; 4], [f32::NEG_INFINITY; 4]);
 /// // The same face twice: the second is not greater.
 /// paqelzim::pix2tri_by_rasterization(
-///     &mut pix2tri, &mut pix2depth, &[0, 1, 2, 0, 1, 2], &vtx2xyz, 2, 2, &identity, 10,
+///     &mut pix2tri, &mut pix2depth, &[0, 1, 2, 0, 1, 2], &vtx2xyz, 2, 2, &identity, 10, Facing::All,
 /// )?;
 /// assert_eq!((pix2tri, pix2depth), ([10; 4], [0.25; 4]));
 ///
 /// // There is no vertex 3.
 /// let refused = paqelzim::pix2tri_by_rasterization(
-///     &mut pix2tri, &mut pix2depth, &[0, 1, 3], &vtx2xyz, 2, 2, &identity, 10,
+///     &mut pix2tri, &mut pix2depth, &[0, 1, 3], &vtx2xyz, 2, 2, &identity, 10, Facing::All,
 /// );
 /// assert_eq!(refused, Err(paqelzim::Refusal::VertexNumber));
+/// # Ok::<(), paqelzim::Refusal>(())
+/// ```
+///
+/// A face of each winding:
+///
+/// ```
+/// use paqelzim::Facing;
+/// let identity: [f32; 16] = std::array::from_fn(|i| if i % 5 == 0 { 1. } else { 0. });
+/// let vtx2xyz = [-1., -1., 0.25, 3., -1., 0.25, -1., 3., 0.25];
+/// let (counter_clockwise, clockwise) = ([0, 1, 2], [0, 2, 1]);
+/// // The number of the face that holds the first pixel, once both are drawn.
+/// let held = |tri2vtx: &[u32], facing| {
+///     let (mut pix2tri, mut pix2depth) = ([u32::MAX; 4], [f32::NEG_INFINITY; 4]);
+///     paqelzim::pix2tri_by_rasterization(
+///         &mut pix2tri, &mut pix2depth, tri2vtx, &vtx2xyz, 2, 2, &identity, 0, facing,
+///     )?;
+///     Ok::<u32, paqelzim::Refusal>(pix2tri[0])
+/// };
+/// let both = [counter_clockwise, clockwise].concat();
+/// assert_eq!(held(&both, Facing::All)?, 0);
+/// assert_eq!(held(&both, Facing::Front)?, 1);
+/// assert_eq!(held(&counter_clockwise, Facing::Front)?, u32::MAX);
 /// # Ok::<(), paqelzim::Refusal>(())
 /// ```
 #[allow(clippy::too_many_arguments)]
@@ -76,6 +138,7 @@ pub fn pix2tri_by_rasterization(
     img_h: usize,
     transform_world2ndc: &[f32; 16],
     first: u32,
+    facing: Facing,
 ) -> Result<(), Refusal> {
     // SAFETY: each pointer comes with its slice's own length, and the call accepts every length; the matrix has
     // its sixteen numbers.
@@ -93,6 +156,7 @@ pub fn pix2tri_by_rasterization(
             img_h,
             transform_world2ndc.as_ptr(),
             first,
+            facing as u32,
         )
     })
 }
@@ -107,7 +171,8 @@ pub struct DrawingLoad {
 }
 
 /// Tells how much work it is to draw the faces of a mesh, without drawing them and without a layer: the pieces and the
-/// scanned pixels of [`pix2tri_by_rasterization`] for the same mesh, size and matrix.
+/// scanned pixels of [`pix2tri_by_rasterization`] for the same mesh, size and matrix, with either [`Facing`]: a piece that is not
+/// front is clipped and scanned all the same.
 ///
 /// A piece is scanned at the pixels whose centre lies in the closed box of its corners, whether or not it covers them. One
 /// with a corner that is not finite in pixels counts as a piece and is offered no pixel. The cost is that of projecting and

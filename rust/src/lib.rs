@@ -13,19 +13,19 @@
 //!
 //! A call that can refuse asks its questions in its page's order before it writes anything. The first that is answered
 //! no is the [`Refusal`], and then every slice is as it was. Each call's page names its questions and the places
-//! that an accepted call writes; every other place keeps its bits. Nothing is stored there, but by [`join`] and
-//! [`pix2tri_by_rasterization`], which store what it held again. That a NaN keeps its payload is tested and not proved:
-//! to the proofs there is one NaN.
+//! that an accepted call writes; every other place keeps its bits. Nothing is stored there, but by [`join`], which stores
+//! what it held again. That a NaN keeps its payload is tested and not proved: to the proofs there is one NaN.
 //!
 //! ```
 //! // One face over the whole of a picture of 2 x 2 pixels, drawn and given values.
+//! use paqelzim::Facing;
 //! let identity: [f32; 16] = std::array::from_fn(|i| if i % 5 == 0 { 1. } else { 0. });
 //! let tri2vtx = [0, 1, 2];
 //! let vtx2xyz = [-1., -1., 0.25, 3., -1., 0.25, -1., 3., 0.25];
 //! let (mut pix2tri, mut pix2depth) = ([0; 4], [0.; 4]);
 //! paqelzim::clear(&mut pix2tri, &mut pix2depth, 2, 2)?;
 //! paqelzim::pix2tri_by_rasterization(
-//!     &mut pix2tri, &mut pix2depth, &tri2vtx, &vtx2xyz, 2, 2, &identity, 0,
+//!     &mut pix2tri, &mut pix2depth, &tri2vtx, &vtx2xyz, 2, 2, &identity, 0, Facing::All,
 //! )?;
 //! assert_eq!((pix2tri, pix2depth), ([0; 4], [0.25; 4]));
 //! let mut pix2val = [0.; 4];
@@ -43,7 +43,7 @@ mod layers;
 mod refusal;
 mod values;
 
-pub use drawing::{drawing_load, pix2tri_by_rasterization, DrawingLoad};
+pub use drawing::{drawing_load, pix2tri_by_rasterization, DrawingLoad, Facing};
 pub use edges::{bwd, edge_gradient_and_type, interpolate_from_edges};
 pub use float_tools::{hypot_f32, narrow_f64_to_f32, sqrt_f32, sqrt_f64};
 pub use layers::{clear, join};

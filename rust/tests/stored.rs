@@ -7,7 +7,7 @@
 
 use paqelzim::{
     bwd, clear, drawing_load, edge_gradient_and_type, interpolate, interpolate_bwd,
-    interpolate_from_edges, join, pix2tri_by_rasterization, Refusal,
+    interpolate_from_edges, join, pix2tri_by_rasterization, Facing, Refusal,
 };
 
 fn words(text: &str) -> Vec<u32> {
@@ -85,7 +85,10 @@ fn on_layers(call: u32, w: usize, h: usize, asked: &mut Asked) -> Answer {
         } else {
             let m = asked.matrix();
             let first = asked.next();
-            pix2tri_by_rasterization(&mut map, &mut depth, &numbers, &floats, w, h, &m, first)
+            let all = Facing::All;
+            pix2tri_by_rasterization(
+                &mut map, &mut depth, &numbers, &floats, w, h, &m, first, all,
+            )
         }
     };
     Answer::new(code).numbers(&map).floats(&depth)

@@ -34,6 +34,7 @@ fn scene(side: usize, count: usize, corners: impl Fn(&mut Random) -> [[f32; 2]; 
         img_h: side,
         transform_world2ndc: camera(),
         first: 0,
+        facing: 0,
     }
 }
 
@@ -79,6 +80,7 @@ fn ball(around: usize, down: usize, side: usize, zoom: f32) -> Scene {
 }
 
 fn ours(scene: &mut Scene) {
+    let facing = scene.facing();
     paqelzim::pix2tri_by_rasterization(
         &mut scene.pix2tri,
         &mut scene.pix2depth,
@@ -88,8 +90,23 @@ fn ours(scene: &mut Scene) {
         scene.img_h,
         &scene.transform_world2ndc,
         scene.first,
+        facing,
     )
     .expect("the mesh is accepted");
+}
+
+fn front(scene: &mut Scene) {
+    scene.facing = 1;
+    ours(scene);
+}
+
+fn front_beside_all(name: &str, scene: &Scene) {
+    let times = least(scene, &mut [&mut front, &mut ours]);
+    let ratio = times[0] / times[1];
+    println!(
+        "front pieces of {name:<28}{:>8.2} ms, all faces {:>8.2} ms, ratio {ratio:.2}",
+        times[0], times[1]
+    );
 }
 
 #[cfg(listed)]
@@ -184,6 +201,10 @@ fn main() {
     draw("200,000 faces beside the image", &beside);
     let near = ball(500, 200, 512, 20.0);
     draw("200,000 faces, most off the image", &near);
+    println!();
+    front_beside_all("50,000 small faces", &small);
+    front_beside_all("a ball of 50,000 faces", &closed);
+    front_beside_all("100 large faces", &large);
     println!();
     load_beside_drawing("50,000 small faces", &small);
     load_beside_drawing("a ball of 1,000,000 tiny faces", &million);

@@ -85,6 +85,7 @@ mod listed {
             img_h: SIDE,
             transform_world2ndc: identity(),
             first: 0,
+            facing: 0,
         };
         let pix2tri = reference::drawn(&scene).0;
         let random = &mut Random::new(1);

@@ -2,6 +2,7 @@
 use crate::pass::{Pass, Velocities};
 use crate::scene::{Scene, EMPTY};
 use std::cell::{Cell, RefCell};
+use std::collections::BTreeMap;
 use std::panic::{catch_unwind, AssertUnwindSafe};
 use std::sync::Once;
 
@@ -14,6 +15,46 @@ thread_local! {
     static PIECES: RefCell<Vec<Piece>> = const { RefCell::new(Vec::new()) };
     /// The pixels that its scans have offered.
     static PIXELS: Cell<u64> = const { Cell::new(0) };
+    /// What the facing file asks its candidates, and those that it has asked.
+    static FACING: Cell<u32> = const { Cell::new(0) };
+    static CANDIDATES: RefCell<Candidates> = const { RefCell::new(Candidates::new()) };
+}
+
+/// The branch of the listed drawing that a piece comes from. One that is cut has a corner alone on its side of the near plane.
+#[derive(Clone, Copy, Debug, PartialEq, Eq, PartialOrd, Ord)]
+pub enum Branch {
+    Whole,
+    One(usize),
+    Two(usize),
+}
+
+impl Branch {
+    pub const ALL: [Branch; 7] = [
+        Branch::Whole,
+        Branch::One(0),
+        Branch::One(1),
+        Branch::One(2),
+        Branch::Two(0),
+        Branch::Two(1),
+        Branch::Two(2),
+    ];
+
+    /// Whether its pieces list their corners turned round, as (1, 0, 2) is.
+    pub fn turned(self) -> bool {
+        matches!(self, Branch::One(1) | Branch::Two(1))
+    }
+}
+
+/// Candidates by branch, whether s was above 0, and whether they counted.
+pub type Candidates = BTreeMap<(Branch, bool, bool), u64>;
+
+/// Whether a candidate of the facing file counts: a piece that has weights at a pixel, none of them too low.
+pub fn faces(branch: Branch, s: f32) -> bool {
+    let front = if branch.turned() { s < 0.0 } else { s > 0.0 };
+    let counts = FACING.get() == 0 || front;
+    let met = (branch, s > 0.0, counts);
+    CANDIDATES.with_borrow_mut(|candidates| *candidates.entry(met).or_insert(0) += 1);
+    counts
 }
 
 /// The counting file draws a piece.
@@ -190,13 +231,16 @@ pub fn interpolate_from_edges(v: &Velocities) -> Option<Vec<f32>> {
     })
 }
 
-/// Map and depths after the listed Rust has drawn an accepted scene. It numbers faces from 0 and never reads the
-/// map, so it draws on an empty one: what is no longer empty was written.
-pub fn drawn(scene: &Scene) -> (Vec<u32>, Vec<f32>) {
+/// `pix2tri_by_rasterization` of one of the files.
+type Draw = fn(&mut [u32], &mut [f32], &[[u32; 3]], &[[f32; 3]], (usize, usize), &[f32; 16]);
+
+/// Map and depths after the file has drawn an accepted scene. It numbers faces from 0 and never reads the map, so it
+/// draws on an empty one: what is no longer empty was written.
+fn drawn_by(draw: Draw, scene: &Scene) -> (Vec<u32>, Vec<f32>) {
     let mut written = vec![EMPTY; scene.pix2tri.len()];
     let mut depths = scene.pix2depth.clone();
     del_geo_core::tri2_scanline::of_image(scene.img_w, scene.img_h);
-    crate::pix2tri::pix2tri_by_rasterization::<u32>(
+    draw(
         &mut written,
         &mut depths,
         scene.tri2vtx.as_chunks::<3>().0,
@@ -209,13 +253,37 @@ pub fn drawn(scene: &Scene) -> (Vec<u32>, Vec<f32>) {
     (numbers, depths)
 }
 
-/// The pieces of the listed Rust while it draws an accepted mesh, and how many pixels they are offered.
+/// Map and depths after the listed Rust has drawn an accepted scene, of all faces.
+pub fn drawn(scene: &Scene) -> (Vec<u32>, Vec<f32>) {
+    assert_eq!(scene.facing, 0, "the listed Rust has no facing");
+    drawn_by(crate::pix2tri::pix2tri_by_rasterization::<u32>, scene)
+}
+
+/// The same with the scene's facing, by the file that asks for it; and the candidates that it has asked.
+pub fn drawn_facing(scene: &Scene) -> ((Vec<u32>, Vec<f32>), Candidates) {
+    FACING.set(scene.facing);
+    CANDIDATES.take();
+    let layer = drawn_by(
+        crate::pix2tri_facing::pix2tri_by_rasterization::<u32>,
+        scene,
+    );
+    PIECES.take();
+    (layer, CANDIDATES.take())
+}
+
+/// The pieces of the listed Rust while it draws an accepted mesh, and how many pixels they are offered. Of front pieces, those
+/// of the file that asks for them.
 fn counted(scene: &Scene) -> (Vec<Piece>, u64) {
     let pixels = scene.img_w * scene.img_h;
+    let draw: Draw = match scene.facing {
+        0 => crate::pix2tri_counting::pix2tri_by_rasterization::<u32>,
+        _ => crate::pix2tri_facing::pix2tri_by_rasterization::<u32>,
+    };
     PIECES.take();
     PIXELS.set(0);
+    FACING.set(scene.facing);
     del_geo_core::tri2_scanline::of_image(scene.img_w, scene.img_h);
-    crate::pix2tri_counting::pix2tri_by_rasterization::<u32>(
+    draw(
         &mut vec![EMPTY; pixels],
         &mut vec![f32::NEG_INFINITY; pixels],
         scene.tri2vtx.as_chunks::<3>().0,

@@ -18,9 +18,28 @@ pub struct Scene {
     pub img_h: usize,
     pub transform_world2ndc: [f32; 16],
     pub first: u32,
+    /// 0 for all faces, any other number for front pieces only.
+    pub facing: u32,
 }
 
-/// A scene for each seed.
+impl Scene {
+    /// The same drawing with another facing.
+    pub fn faced(&self, facing: u32) -> Self {
+        let mut scene = self.clone();
+        scene.facing = facing;
+        scene
+    }
+
+    /// The facing as the package takes it.
+    pub fn facing(&self) -> paqelzim::Facing {
+        match self.facing {
+            0 => paqelzim::Facing::All,
+            _ => paqelzim::Facing::Front,
+        }
+    }
+}
+
+/// A scene for each seed, of all faces.
 pub fn scene(seed: u64) -> Scene {
     let random = &mut Random::new(seed);
     let mut scene = accepted(random);
@@ -55,7 +74,7 @@ pub fn crowded(random: &mut Random) -> Scene {
         let (tri2vtx, vtx2xyz) = sheets(random);
         let mut made = finished(random, size, tri2vtx, vtx2xyz);
         if random.percent(70) {
-            made.transform_world2ndc = facing(random);
+            made.transform_world2ndc = before_sheets(random);
         }
         return made;
     }
@@ -90,6 +109,7 @@ fn finished(
         img_h,
         transform_world2ndc: matrix(random),
         first,
+        facing: 0,
     }
 }
 
@@ -118,7 +138,7 @@ fn sheets(random: &mut Random) -> (Vec<u32>, Vec<f32>) {
 
 /// A matrix under which the sheets are seen: orthographic, or a camera at the origin that looks along −z, the near
 /// plane before or among them.
-fn facing(random: &mut Random) -> [f32; 16] {
+fn before_sheets(random: &mut Random) -> [f32; 16] {
     let mut m: [f32; 16] = std::array::from_fn(|i| if i % 5 == 0 { 0.8 } else { 0.0 });
     let sign = random.one_of(&[0.0, -1.0, 1.0]);
     if sign == 0.0 {

@@ -1,4 +1,5 @@
-//! The load call: refusals beside 01's questions, and both counts beside those of the listed Rust and its scan.
+//! The load call: refusals beside 01's questions, and both counts beside those of the listed Rust and its scan, whatever the
+//! facing, which the call does not take: a piece that is not front is cut and scanned like any other.
 use comparison::expected::load_code;
 use comparison::scene::{scene, Scene, MOST};
 use paqelzim::{drawing_load, DrawingLoad};
@@ -153,7 +154,7 @@ mod listed {
         [(p[0] + 1.0) * 0.5 * w, (1.0 - p[1]) * 0.5 * h]
     }
 
-    /// Both counts beside the listed Rust's, and no more pixels covered than were offered.
+    /// Both counts beside the listed Rust's, which are those of front pieces too; and no more pixels covered than were offered.
     fn is_counted_as_listed(scene: &Scene) -> (u64, u64) {
         let (pieces, pixels) = reference::load(scene);
         let wanted = Answer {
@@ -162,11 +163,17 @@ mod listed {
             pixels,
         };
         assert_eq!(loaded(scene), wanted, "{scene:?}");
-        assert!(covered(scene) <= pixels, "{scene:?}");
+        let front = &scene.faced(1);
+        assert_eq!(reference::load(front), (pieces, pixels), "{front:?}");
+        let covered = [front, scene].map(covered);
+        assert!(
+            covered[0] <= covered[1] && covered[1] <= pixels,
+            "{scene:?}"
+        );
         (pieces, pixels)
     }
 
-    /// The pixels that the mesh covers, drawn by the library on a clear layer.
+    /// The pixels that the mesh covers, drawn by the library on a clear layer with the scene's facing.
     fn covered(scene: &Scene) -> u64 {
         let mut numbers = vec![EMPTY; scene.img_w * scene.img_h];
         let mut depths = vec![f32::NEG_INFINITY; numbers.len()];
@@ -179,6 +186,7 @@ mod listed {
             scene.img_h,
             &scene.transform_world2ndc,
             0,
+            scene.facing(),
         )
         .expect("what has a load can be drawn");
         numbers.iter().filter(|&&number| number != EMPTY).count() as u64

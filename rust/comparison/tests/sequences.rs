@@ -1,6 +1,7 @@
 //! Demand 3, executed: faces that hold no pixel are taken out, the rest is cut into runs, each run's layer is cleared
 //! and drawn, and neighbours are joined in any bracketing, refused calls among them. What remains has the full
-//! drawing's depth bits and, renumbered, its map; and every pass over it gives the same code and the same bits.
+//! drawing's depth bits and, renumbered, its map; and every pass over it gives the same code and the same bits. So it is with
+//! front pieces only, where the whole drawing and all runs have that facing.
 use comparison::pass::{beside_the_map, Pass};
 use comparison::random::Random;
 use comparison::scene::{accepted, crowded, Scene, EMPTY};
@@ -34,6 +35,7 @@ fn draw(layer: &mut Layer, scene: &Scene, faces: &[u32], first: usize) -> Result
         scene.img_h,
         &scene.transform_world2ndc,
         first as u32,
+        scene.facing(),
     )
 }
 
@@ -52,6 +54,7 @@ fn refused(random: &mut Random, layers: &mut [Option<Layer>], scene: &Scene) -> 
         return false;
     };
     let (w, h) = (scene.img_w, scene.img_h);
+    let scene = &scene.faced(random.one_of(&[0, 1]));
     let answer = match random.below(5) {
         0 => paqelzim::clear(&mut layer.pix2tri, &mut layer.pix2depth, w + 1, h),
         1 => paqelzim::clear(&mut layer.pix2tri, &mut layer.pix2depth, 4097, h),
@@ -216,6 +219,8 @@ struct Seen {
     removed: usize,
     pixels: usize,
     covered: usize,
+    /// Drawings that are another with all faces.
+    other_with_all: usize,
     /// Of each pass, how often it was accepted with a covered pixel, and how often refused.
     accepted: [usize; 4],
     refused: [usize; 4],
@@ -296,6 +301,8 @@ fn case(random: &mut Random, scene: &Scene, cuts: usize, seen: &mut Seen) {
     seen.removed += (scene.tri2vtx.len() - kept.len()) / 3;
     seen.pixels += renumbered.len();
     seen.covered += renumbered.iter().filter(|&&entry| entry != EMPTY).count();
+    let all = drawn_whole(random, &scene.faced(0));
+    seen.other_with_all += usize::from(all.pix2tri != full.pix2tri);
     let mut pass = beside_the_map(random, scene);
     pass.vtx2xyz = scene.vtx2xyz.clone();
     vary(random, &mut pass);
@@ -303,12 +310,12 @@ fn case(random: &mut Random, scene: &Scene, cuts: usize, seen: &mut Seen) {
     passes_are_alike(&mut pass, whole, [kept, last.pix2tri], seen);
 }
 
-#[test]
-fn thinned_cut_and_joined_the_picture_and_its_passes_are_the_same() {
+/// Small pictures with that facing.
+fn small(facing: u32) -> Seen {
     let mut seen = Seen::default();
     for seed in 0..CASES {
         let random = &mut Random::new(seed);
-        let scene = accepted(random);
+        let scene = accepted(random).faced(facing);
         // larger images come below, with more faces
         if scene.img_w * scene.img_h <= 400 {
             seen.seed = seed;
@@ -316,24 +323,54 @@ fn thinned_cut_and_joined_the_picture_and_its_passes_are_the_same() {
         }
     }
     println!("{seen:?}");
-    assert!(seen.cases > 18_000 && seen.removed > 30_000 && seen.covered > 40_000);
-    assert!(seen.refused_calls > 30_000);
-    assert!(seen.accepted.iter().all(|&times| times > 2_000));
-    assert!(seen.refused.iter().all(|&times| times > 200));
+    assert!(seen.cases > 18_000 && seen.refused_calls > 30_000);
+    seen
 }
 
 #[test]
-fn so_are_crowded_pictures() {
+fn thinned_cut_and_joined_the_picture_and_its_passes_are_the_same() {
+    let seen = small(0);
+    assert!(seen.removed > 30_000 && seen.covered > 40_000);
+    assert!(seen.accepted.iter().all(|&times| times > 2_000));
+    assert!(seen.refused.iter().all(|&times| times > 200));
+    assert_eq!(seen.other_with_all, 0);
+}
+
+#[test]
+fn so_are_those_of_front_pieces() {
+    let seen = small(1);
+    assert!(seen.removed > 30_000 && seen.covered > 20_000);
+    assert!(seen.accepted.iter().all(|&times| times > 1_000));
+    assert!(seen.refused.iter().all(|&times| times > 100));
+    assert!(seen.other_with_all > 1_500);
+}
+
+/// Pictures of some hundred faces with that facing.
+fn crowds(facing: u32) -> Seen {
     let mut seen = Seen::default();
     for seed in CASES..CASES + CROWDED {
         let random = &mut Random::new(seed);
-        let scene = crowded(random);
+        let scene = crowded(random).faced(facing);
         seen.seed = seed;
         case(random, &scene, 12, &mut seen);
     }
     println!("{seen:?}");
     assert!(seen.runs > 30_000 && seen.refused_calls > 15_000);
+    assert!(seen.refused.iter().all(|&times| times > 300));
+    seen
+}
+
+#[test]
+fn so_are_crowded_pictures() {
+    let seen = crowds(0);
     assert!(seen.removed > 250_000 && seen.covered > 4_000_000);
     assert!(seen.accepted.iter().all(|&times| times > 3_000));
-    assert!(seen.refused.iter().all(|&times| times > 300));
+}
+
+#[test]
+fn so_are_crowded_pictures_of_front_pieces() {
+    let seen = crowds(1);
+    assert!(seen.removed > 250_000 && seen.covered > 1_000_000);
+    assert!(seen.accepted.iter().all(|&times| times > 2_000));
+    assert!(seen.other_with_all > 2_000);
 }

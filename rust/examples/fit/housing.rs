@@ -1,5 +1,6 @@
 //! The mesh of a small connector housing, in millimetres: a tub with a rim, a key, a latch and eight pins.
 use crate::pose::Vec3;
+use std::ops::Range;
 
 pub const CHANNELS: usize = 3;
 
@@ -10,6 +11,10 @@ pub struct Housing {
     pub vtx2val: Vec<f32>,
     /// The corners of the underside, which tell how the housing sits.
     pub foot: [Vec3; 4],
+    /// Of each side, whether it is at its block's high end.
+    side2high: Vec<bool>,
+    /// The sides of the inner skin, which look into their block.
+    inner: Range<usize>,
 }
 
 /// A side of a block: across which axis, and whether at its high end.
@@ -31,10 +36,13 @@ impl Housing {
             points: Vec::new(),
             vtx2val: Vec::new(),
             foot: [[-11., -6.], [11., -6.], [-11., 6.], [11., 6.]].map(|[x, y]| [x, y, 0.]),
+            side2high: Vec::new(),
+            inner: 0..0,
         };
         let tub = [WALLS[0], WALLS[1], WALLS[2], WALLS[3], BOTTOM];
         housing.block([-11., -6., 0.], [11., 6., HEIGHT], &tub, PLASTIC);
         housing.block([-9.5, -4.5, 2.], [9.5, 4.5, HEIGHT], &tub, PLASTIC);
+        housing.inner = tub.len()..2 * tub.len();
         for (low, high) in [
             ([-11., -6.], [-9.5, 6.]),
             ([9.5, -6.], [11., 6.]),
@@ -60,9 +68,29 @@ impl Housing {
         housing
     }
 
+    /// The faces for a drawing of front pieces, and which are of the inner skin: every one clockwise as seen from outside the plastic,
+    /// so that it is front where that side shows, and those of the foot left out.
+    pub fn open_and_clockwise(&self) -> (Vec<u32>, Vec<bool>) {
+        let on_foot = |v: &u32| self.foot.contains(&self.points[*v as usize]);
+        let (mut tri2vtx, mut tri2inner) = (Vec::new(), Vec::new());
+        for (number, &[a, b, c]) in self.tri2vtx.as_chunks::<3>().0.iter().enumerate() {
+            if [a, b, c].iter().all(on_foot) {
+                continue;
+            }
+            let side = number / 2;
+            let is_inner = self.inner.contains(&side);
+            // a side is listed counter-clockwise as seen from its axis's high end
+            let clockwise = self.side2high[side] == is_inner;
+            tri2vtx.extend(if clockwise { [a, b, c] } else { [a, c, b] });
+            tri2inner.push(is_inner);
+        }
+        (tri2vtx, tri2inner)
+    }
+
     /// Sides of the block between two corners, each with four vertices of its own and two faces.
     fn block(&mut self, low: Vec3, high: Vec3, sides: &[Side], colour: Vec3) {
         for &(axis, at_high) in sides {
+            self.side2high.push(at_high);
             let first = self.points.len() as u32;
             let (u, v) = ((axis + 1) % 3, (axis + 2) % 3);
             for (on_u, on_v) in [(low, low), (high, low), (high, high), (low, high)] {

@@ -2,6 +2,7 @@
 use crate::housing::CHANNELS;
 use crate::png;
 use crate::scene::{Scene, Seen};
+use crate::skins::Skins;
 use std::error::Error;
 use std::path::Path;
 
@@ -25,6 +26,20 @@ pub fn write(
         let rgb = squares(img_w, &coloured(values));
         png::write(&folder.join(format!("{name}.png")), SQUARE * img_w, &rgb)?;
     }
+    Ok(())
+}
+
+/// All faces to the left, front pieces only to the right.
+pub fn write_skins(folder: &Path, scene: &Scene, skins: &Skins) -> Result<(), Box<dyn Error>> {
+    let width = CHANNELS * scene.camera.img_w;
+    let [all, front] = skins.values(scene)?;
+    let rows = all.chunks(width).zip(front.chunks(width));
+    let values: Vec<f32> = rows
+        .flat_map(|(left, right)| [left, right].concat())
+        .collect();
+    let img_w = 2 * scene.camera.img_w;
+    let rgb = squares(img_w, &coloured(&values));
+    png::write(&folder.join("facing.png"), SQUARE * img_w, &rgb)?;
     Ok(())
 }
 

@@ -2,7 +2,7 @@
 use crate::camera::Camera;
 use crate::housing::{Housing, CHANNELS};
 use crate::pose::Pose;
-use paqelzim::{DrawingLoad, Refusal};
+use paqelzim::{DrawingLoad, Facing, Refusal};
 
 const EMPTY: u32 = u32::MAX;
 const BACKGROUND: [f32; CHANNELS] = [0.06, 0.07, 0.09];
@@ -94,7 +94,7 @@ impl Scene {
         let layer = if way.in_runs {
             self.drawn_in_runs(&tri2vtx, &vtx2xyz, iteration)?
         } else {
-            self.drawn(&tri2vtx, &vtx2xyz, 0)?
+            self.drawn(&tri2vtx, &vtx2xyz, 0, Facing::All)?
         };
         let pix2val = self.values(&tri2vtx, &vtx2xyz, &layer.pix2tri)?;
         let (residual, dldw_pix2val) = self.difference(&pix2val);
@@ -112,7 +112,12 @@ impl Scene {
     }
 
     /// The picture: the housing's colours before the background.
-    fn values(&self, tri2vtx: &[u32], vtx2xyz: &[f32], map: &[u32]) -> Result<Vec<f32>, Refusal> {
+    pub fn values(
+        &self,
+        tri2vtx: &[u32],
+        vtx2xyz: &[f32],
+        map: &[u32],
+    ) -> Result<Vec<f32>, Refusal> {
         let mut pix2val = BACKGROUND.repeat(self.camera.num_pix());
         paqelzim::interpolate(
             self.camera.img_w,
@@ -166,7 +171,13 @@ impl Scene {
     }
 
     /// A layer, whatever it held, cleared and drawn with faces numbered from `first` on.
-    fn drawn(&self, tri2vtx: &[u32], vtx2xyz: &[f32], first: usize) -> Result<Layer, Refusal> {
+    pub fn drawn(
+        &self,
+        tri2vtx: &[u32],
+        vtx2xyz: &[f32],
+        first: usize,
+        facing: Facing,
+    ) -> Result<Layer, Refusal> {
         let Camera { img_w, img_h, .. } = self.camera;
         let mut layer = Layer {
             pix2tri: vec![7; self.camera.num_pix()],
@@ -184,6 +195,7 @@ impl Scene {
             img_h,
             world2ndc,
             first as u32,
+            facing,
         )?;
         Ok(layer)
     }
@@ -198,7 +210,9 @@ impl Scene {
         let num_tri = tri2vtx.len() / 3;
         let one = 7 * iteration % num_tri;
         let two = one + 11 * iteration % (num_tri - one);
-        let run = |from: usize, to: usize| self.drawn(&tri2vtx[3 * from..3 * to], vtx2xyz, from);
+        let run = |from: usize, to: usize| {
+            self.drawn(&tri2vtx[3 * from..3 * to], vtx2xyz, from, Facing::All)
+        };
         let (mut a, mut b, c) = (run(0, one)?, run(one, two)?, run(two, num_tri)?);
         if iteration % 2 == 0 {
             self.join(&mut a, &b)?;

@@ -167,12 +167,46 @@ static void drawing(void) {
     float pix2depth[4];
     int p;
     expect(paqelzim_clear(pix2tri, 4, pix2depth, 4, 2, 2) == 0, "cleared");
-    expect(paqelzim_pix2tri_by_rasterization(pix2tri, 4, pix2depth, 4, bad, 3, corners, 9, 2, 2, identity, 0) == 6, "names 3");
+    expect(paqelzim_pix2tri_by_rasterization(pix2tri, 4, pix2depth, 4, bad, 3, corners, 9, 2, 2, identity, 0, 0) == 6, "names 3");
     expect(pix2tri[0] == 4294967295u, "a refused drawing writes nothing");
-    expect(paqelzim_pix2tri_by_rasterization(pix2tri, 4, pix2depth, 4, face, 3, corners, 9, 2, 2, identity, 7) == 0, "drawn");
+    expect(paqelzim_pix2tri_by_rasterization(pix2tri, 4, pix2depth, 4, face, 3, corners, 9, 2, 2, identity, 7, 0) == 0, "drawn");
     for (p = 0; p < 4; p += 1) {
         expect(pix2tri[p] == 7 && pix2depth[p] == 0.25f, "four pixels");
     }
+}
+
+/* The face alone on a clear layer of 2 x 2, which it covers or leaves clear. */
+static void faced(const uint32_t *corner, uint32_t facing, int drawn, const char *what) {
+    uint32_t pix2tri[4];
+    float pix2depth[4];
+    int p;
+    expect(paqelzim_clear(pix2tri, 4, pix2depth, 4, 2, 2) == 0, "cleared");
+    expect(paqelzim_pix2tri_by_rasterization(pix2tri, 4, pix2depth, 4, corner, 3, corners, 9, 2, 2, identity, 7, facing) == 0, what);
+    for (p = 0; p < 4; p += 1) {
+        expect(pix2tri[p] == (drawn ? 7u : 4294967295u), what);
+        expect(bits_of(pix2depth[p]) == (drawn ? 0x3e800000u : 0xff800000u), what);
+    }
+}
+
+/* T(0.25) runs counter-clockwise, and clockwise with two corners exchanged: all faces, and front pieces by two numbers. Of
+ * both at one depth, the front one is drawn though it comes second. A facing changes no code. */
+static void facing(void) {
+    const uint32_t back[3] = {0, 1, 2}, front[3] = {0, 2, 1}, both[6] = {0, 1, 2, 0, 2, 1}, bad[3] = {0, 2, 3};
+    uint32_t pix2tri[4] = {5, 5, 5, 5};
+    float pix2depth[4] = {0.125f, 0.125f, 0.125f, 0.5f};
+    faced(front, 0, 1, "a front face with all faces");
+    faced(back, 0, 1, "a back face with all faces");
+    faced(front, 1, 1, "a front face with facing 1");
+    faced(back, 1, 0, "a back face with facing 1");
+    faced(front, 4294967295u, 1, "a front face with facing 4294967295");
+    faced(back, 4294967295u, 0, "a back face with facing 4294967295");
+    expect(paqelzim_pix2tri_by_rasterization(pix2tri, 4, pix2depth, 4, bad, 3, corners, 9, 2, 2, identity, 0, 1) == 6, "names 3, facing 1");
+    expect(paqelzim_pix2tri_by_rasterization(pix2tri, 4, pix2depth, 3, both, 6, corners, 9, 2, 2, identity, 0, 4294967295u) == 4,
+           "one depth short, facing 4294967295");
+    expect(pix2tri[0] == 5 && pix2depth[0] == 0.125f, "a refused drawing of front pieces writes nothing");
+    expect(paqelzim_pix2tri_by_rasterization(pix2tri, 4, pix2depth, 4, both, 6, corners, 9, 2, 2, identity, 0, 1) == 0, "both, facing 1");
+    expect(pix2tri[0] == 1 && pix2depth[0] == 0.25f, "the front one of two");
+    expect(pix2tri[3] == 5 && pix2depth[3] == 0.5f, "a pixel that holds a greater depth");
 }
 
 /* T(0.25) and a face with a corner nowhere on 2 x 2; refused, every field but the code is 0. */
@@ -201,6 +235,7 @@ int main(void) {
     edges_backward();
     velocities();
     drawing();
+    facing();
     load();
     return wrong == 0 ? 0 : 1;
 }

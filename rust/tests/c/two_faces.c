@@ -16,7 +16,7 @@ int main(void) {
 
     uint32_t code = paqelzim_clear(pix2tri, 4, pix2depth, 4, 2, 2);
     if (code == 0)
-        code = paqelzim_pix2tri_by_rasterization(pix2tri, 4, pix2depth, 4, tri2vtx, 6, vtx2xyz, 18, 2, 2, identity, 0);
+        code = paqelzim_pix2tri_by_rasterization(pix2tri, 4, pix2depth, 4, tri2vtx, 6, vtx2xyz, 18, 2, 2, identity, 0, 0);
     if (code != 0) {
         printf("refused at question %" PRIu32 "\n", code);
         return 1;

@@ -1,6 +1,6 @@
 //! Random meshes before a camera, drawn by the library.
 use crate::rules::{dot, projected, ray, stretch, weights, Point, Ray};
-use paqelzim::{clear, pix2tri_by_rasterization};
+use paqelzim::{clear, pix2tri_by_rasterization, Facing};
 
 pub const EMPTY: u32 = u32::MAX;
 /// Pixels that are stretched more are left out: their rays graze their faces, or the faces are thin or far.
@@ -162,7 +162,8 @@ fn drawn(size: (usize, usize), tri2vtx: &[u32], xyz: &[f32], world2ndc: &[f32; 1
     let (w, h) = size;
     let (mut map, mut depths) = (vec![0; w * h], vec![0.0; w * h]);
     clear(&mut map, &mut depths, w, h).expect("accepted");
-    pix2tri_by_rasterization(&mut map, &mut depths, tri2vtx, xyz, w, h, world2ndc, 0)
+    let all = Facing::All;
+    pix2tri_by_rasterization(&mut map, &mut depths, tri2vtx, xyz, w, h, world2ndc, 0, all)
         .expect("accepted");
     map
 }

@@ -22,3 +22,14 @@ pub fn barycentric_coords(
     }
     Some((a0 / s, a1 / s, a2 / s))
 }
+
+/// The same with s, the doubled signed area (02, Point 8). It stands apart, so that the listed scan is timed with what it had.
+pub fn barycentric_coords_and_area(
+    p0: &[f32; 2],
+    p1: &[f32; 2],
+    p2: &[f32; 2],
+    q: &[f32; 2],
+) -> Option<(f32, f32, f32, f32)> {
+    let s = cross2(q, p1, p2) + cross2(q, p2, p0) + cross2(q, p0, p1);
+    barycentric_coords(p0, p1, p2, q).map(|(b0, b1, b2)| (b0, b1, b2, s))
+}
