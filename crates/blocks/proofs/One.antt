@@ -34,13 +34,13 @@ unfolding kept orLowest numbered offered
 kept-picked c k s b true e = rw e (sym (pick-lowest c k))
 kept-picked c k s b false e = rw e
 
-module _ (counted : Float → Bool) where
-  -- counted or not
-  counted-picked : (c : Cell) (k : ℕ) (s : Triangle (Vec3 Float)) (b : Weights Float) (t : Bool) → offered c (numbered k (cond t (kept s b) [])) ≡ pick c (cell (orLowest (cond t (kept s b) [])) k)
-  unfolding orLowest numbered offered
-  counted-picked c k s b true = kept-picked c k s b (dropped b) refl
-  counted-picked c k s b false = sym (pick-lowest c k)
+-- counted or not
+counted-picked : (c : Cell) (k : ℕ) (s : Triangle (Vec3 Float)) (b : Weights Float) (t : Bool) → offered c (numbered k (cond t (kept s b) [])) ≡ pick c (cell (orLowest (cond t (kept s b) [])) k)
+unfolding orLowest numbered offered
+counted-picked c k s b true = kept-picked c k s b (dropped b) refl
+counted-picked c k s b false = sym (pick-lowest c k)
 
+module _ (counted : Float → Bool) where
   weighed-picked : (c : Cell) (k : ℕ) (s : Triangle (Vec3 Float)) (o : Option (Weighed Float)) → offered c (numbered k (weighedDepth counted s o)) ≡ pick c (cell (orLowest (weighedDepth counted s o)) k)
   unfolding weighedDepth orLowest numbered offered
   weighed-picked c k s none = sym (pick-lowest c k)

@@ -1,33 +1,21 @@
 -- The straight way to a pixel's depth gives what the way with its early ends gives.
-use mathlib.Core.Path.{_≡_, refl, sym, ap, _∙_}
+use mathlib.Core.Path.{_≡_, refl, sym, _∙_}
 use mathlib.Core.Bool.{Bool, true, false, not, _&&_, cond}
 use mathlib.Core.Option.{none, some}
 use lib.Ieee.{Float, nan, inf, fin, lt, eq}
 use lib.Ieee.Scale.{finite}
-use Rattle.lists.specs.Laws.Tests.{both}
+use Rattle.lists.specs.Laws.Tests.{both, after-no}
 use Rattle.geometry.specs.Arith.{floats}
 use Rattle.geometry.specs.Vector.{Vec3, Weights, weights, Triangle}
 use Rattle.geometry.specs.Formula.{overTotal, blend}
 use Rattle.geometry.specs.Leaf.{weighed, withSum}
 use Rattle.offers.specs.Offer.{lowest}
+use Rattle.cells.specs.Laws.Put.{never-greater}
 use Rattle.rules.specs.Scan.{weighedDepth, kept, dropBelow, dropped}
 use Rattle.lanes.specs.declared.Side.{Side}
 use Rattle.lanes.specs.Answer.{within, orLowest}
 
 -- ---- what lies between any two ends is finite
-
-not-below-nan : (x : Float) → lt x nan ≡ false
-unfolding lt
-not-below-nan nan = refl
-not-below-nan (inf s) = refl
-not-below-nan (fin s m e) = refl
-
-not-below-lowest : (x : Float) → lt x (inf true) ≡ false
-unfolding lt
-not-below-lowest nan = refl
-not-below-lowest (inf true) = refl
-not-below-lowest (inf false) = refl
-not-below-lowest (fin s m e) = refl
 
 not-above-greatest : (x : Float) → lt (inf false) x ≡ false
 unfolding lt
@@ -36,9 +24,9 @@ not-above-greatest (inf s) = refl
 not-above-greatest (fin s m e) = refl
 
 within-finite : (a : Side) (t : Float) → within a t ≡ true → finite t ≡ true
-unfolding within
-within-finite a nan e = sym (ap (λ (b : Bool). b && lt nan (a .below)) (not-below-nan (a .above))) ∙ e
-within-finite a (inf true) e = sym (ap (λ (b : Bool). b && lt (inf true) (a .below)) (not-below-lowest (a .above))) ∙ e
+unfolding within lt
+within-finite a nan e = sym (after-no _ (never-greater nan refl (a .above))) ∙ e
+within-finite a (inf true) e = sym (after-no _ (never-greater lowest refl (a .above))) ∙ e
 within-finite a (inf false) e = sym (not-above-greatest (a .below)) ∙ both (lt (a .above) (inf false)) _ e .1
 within-finite a (fin s m x) e = refl
 

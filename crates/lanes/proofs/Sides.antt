@@ -16,10 +16,6 @@ below-greatest nan e = e
 below-greatest (inf s) e = absurd (false≢true e)
 below-greatest (fin s m x) e = refl
 
-pub true-and : (b c : Bool) → b ≡ true → b && c ≡ c
-true-and true c e = refl
-true-and false c e = absurd (false≢true e)
-
 pub and-true : (b c : Bool) → c ≡ true → b && c ≡ b
 and-true true c e = e
 and-true false c e = refl

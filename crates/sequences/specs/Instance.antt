@@ -17,7 +17,7 @@ use Rattle.layers.specs.Calls.{clearing, clearCode, joining, joinCode}
 use Rattle.meshes.specs.Mesh.{Face, face, facesOf}
 use Rattle.rules.specs.declared.Facing.the-variants.{All}
 use Rattle.rules.specs.Offers.{Scene, scene, brought, offers, Holds}
-use Rattle.rules.specs.Calls.{facingOf, draws}
+use Rattle.rules.specs.Calls.{draws}
 use Rattle.sequences.specs.Calls.{Store, Call, clear, draw, join, held, other, whole, after, afterAll}
 use Rattle.sequences.specs.Plan as plan
 use Rattle.sequences.specs.Plan.{flat, joined, Stands, nothing, runs, changedAt, Keeps, over, clears, joins, refused, clearOf, drawOf, joinOf}

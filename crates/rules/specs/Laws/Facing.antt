@@ -1,6 +1,6 @@
 -- Facing: what the front counts and what it leaves out are all candidates, and with all faces every layer is what it is without a facing.
 use Prim.Native.Nat.{ℕ, _+_, _*_, _/_, _%_, _<_}
-use mathlib.Core.Path.{_≡_, refl, sym, ap, ap₂, _∙_}
+use mathlib.Core.Path.{_≡_, refl, sym, ap, _∙_}
 use mathlib.Core.Bool.{Bool, true, false, not, _&&_, cond, false≢true}
 use mathlib.Core.Option.{Option, none, some}
 use mathlib.Core.List.{List, [], _++_, append-nil}
@@ -63,9 +63,9 @@ some-digits s a n = go s (eqb a 0) refl n
     go false true e n = absurd (false≢true (sym n ∙ rw e))
     go s false e n = omega (arith, eqb-false a 0 e)
 
-side-of : (s : Bool) (a : ℕ) → level s a false 0 ≡ false → below s a false 0 ≡ not (below false 0 s a)
-side-of true a n = rw (lt-ltb 0 (a + 0) (omega (arith, some-digits true a n)))
-side-of false a n = rw (le-ltb a 0 (omega arith), lt-ltb 0 a (some-digits false a n))
+sign-of : (s : Bool) (a : ℕ) → level s a false 0 ≡ false → below s a false 0 ≡ not (below false 0 s a)
+sign-of true a n = rw (lt-ltb 0 (a + 0) (omega (arith, some-digits true a n)))
+sign-of false a n = rw (le-ltb a 0 (omega arith), lt-ltb 0 a (some-digits false a n))
 
 -- a sum is below 0 where it is not above
 below-or-above : (x : Float) → Weighs x → lt x (floats .zero) ≡ not (lt (floats .zero) x)
@@ -73,7 +73,7 @@ unfolding lt eq ofBits
 below-or-above nan w = absurd (false≢true (w .is-finite))
 below-or-above (inf s) w = absurd (false≢true (w .is-finite))
 below-or-above (fin s m e) w =
-    rw (zero-mul (down e)) (side-of s (m * up e * 1) (ap (level s (m * up e * 1) false) (sym (zero-mul (down e))) ∙ w .not-zero))
+    rw (zero-mul (down e)) (sign-of s (m * up e * 1) (ap (level s (m * up e * 1) false) (sym (zero-mul (down e))) ∙ w .not-zero))
 
 -- what the front leaves out is what it counts of the piece turned round
 pub left-out : (turned : Bool) (x : Float) → Weighs x → counts Front (not turned) x ≡ not (counts Front turned x)
