@@ -20,7 +20,7 @@ use Rattle.rules.specs.Laws.Visited.{spans-visited}
 use Rattle.lanes.specs.Answer.{orLowest}
 use Rattle.boxes.proofs.Reaching.{below-or}
 use Rattle.blocks.specs.Rows.{depthCells, rowsDown, upTo}
-use Rattle.blocks.specs.Greater.{ifGreater, fourIfGreater}
+use Rattle.blocks.specs.Greater.{ifGreater, twoIfGreater, fourIfGreater}
 use Rattle.blocks.proofs.Centres.{centre-before, centre-after}
 use Rattle.blocks.proofs.Down.{rows-none, rows-one}
 use Rattle.blocks.proofs.One.{not-greater}
@@ -37,13 +37,17 @@ spans-greater os p z l {new} {n} s e = rw e (go (lt (at l p .depth) z))
     go true = spans-visited os (p ∷ []) l n s
     go false = s
 
+pub spans-two : (os : ℕ → List Cell) (w ix iy : ℕ) (z0 z1 : Float) (l : Layer) {new : Layer} {n : ℕ} → Spans l n → new ≡ twoIfGreater os w ix iy z0 z1 l → Spans new n
+unfolding twoIfGreater
+spans-two os w ix iy z0 z1 l s e = spans-greater os ((iy + 1) * w + ix) z1 _ (spans-greater os (iy * w + ix) z0 l s refl) e
+
 module _ (os : ℕ → List Cell) where
   left-out : (p : ℕ) (z : Float) (l : Layer) → lt lowest z ≡ false → l ≡ ifGreater os p z l
   unfolding ifGreater
   left-out p z l e = rw (never-greater z e (at l p .depth))
 
   pub four-left-out : (w ix iy : ℕ) (z0 z1 z2 z3 : Float) (l : Layer) → lt lowest z0 || (lt lowest z1 || (lt lowest z2 || lt lowest z3)) ≡ false → l ≡ fourIfGreater os w ix iy z0 z1 z2 z3 l
-  unfolding fourIfGreater
+  unfolding fourIfGreater twoIfGreater
   four-left-out w ix iy z0 z1 z2 z3 l e = go (lt lowest z0) refl (lt lowest z1) refl (lt lowest z2) refl (lt lowest z3) refl e
     where
       go :
@@ -54,7 +58,7 @@ module _ (os : ℕ → List Cell) where
       go false e0 false e1 true e2 b3 e3 f = absurd (false≢true (sym f))
       go false e0 false e1 false e2 true e3 f = absurd (false≢true (sym f))
       go false e0 false e1 false e2 false e3 f =
-          left-out (iy * w + ix) z0 l e0 ∙ left-out ((iy + 1) * w + ix) z1 _ e1 ∙ left-out ((iy + 2) * w + ix) z2 _ e2 ∙ left-out ((iy + 3) * w + ix) z3 _ e3
+          left-out (iy * w + ix) z0 l e0 ∙ left-out ((iy + 1) * w + ix) z1 _ e1 ∙ left-out ((iy + 2) * w + ix) z2 _ e2 ∙ left-out ((iy + 2 + 1) * w + ix) z3 _ e3
 
 -- ---- a row with its mask, and four
 
@@ -118,12 +122,13 @@ module _ (counted : Float → Bool) (s : Triangle (Vec3 Float)) (k w h ix y1 : �
       → m3 ≡ cond (le q3 end) z3 lowest
       → new ≡ fourIfGreater (depthCells counted s k w) w ix iy m0 m1 m2 m3 l
       → new ≡ visited (depthCells counted s k w) (rowsDown w ix iy (upTo y1 (iy + 4))) l
-  unfolding fourIfGreater
+  unfolding fourIfGreater twoIfGreater
   four-done l iy whole room below e0 e1 e2 e3 f0 f1 f2 f3 g0 g1 g2 g3 e =
       let am : iy ≤ y1 = omega arith in
       let r0 = going-first (depthCells counted s k w) w (w * h) ix iy y1 l am whole in
       let r1 = row-next iy l l iy (iy + 1) am refl r0 (omega arith) e0 f0 g0 in
       let r2 = row-next iy l _ (iy + 1) (iy + 2) am (omega arith) r1 (omega arith) e1 f1 g1 in
-      let r3 = row-next iy l _ (iy + 2) (iy + 3) am (omega arith) r2 (omega arith) e2 f2 g2 in
-      let r4 = row-next iy l _ (iy + 3) (iy + 4) am (omega arith) r3 (omega arith) e3 f3 g3 in
+      let r3 = row-next iy l _ (iy + 2) (iy + 2 + 1) am refl r2 (omega arith) e2 f2 g2 in
+      let third : iy + 3 ≡ iy + 2 + 1 = omega arith in
+      let r4 = row-next iy l _ (iy + 2 + 1) (iy + 4) am (omega arith) r3 (omega arith) (e3 ∙ ap centre third) f3 g3 in
       e ∙ r4 .is

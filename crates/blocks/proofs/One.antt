@@ -1,20 +1,21 @@
--- One visit: what it leaves is one step of the pixel's cell, with −infinity in the place of no depth; and a visit that is left out would have changed nothing.
-use Prim.Native.Nat.{ℕ, _+_, _*_, _<_}
+-- One visit: what it leaves is one step of the pixel's cell; and a visit that is left out would have changed nothing.
+use Prim.Native.Nat.{ℕ, _+_, _*_, _<_, _≤_}
 use mathlib.Core.Path.{_≡_, refl, sym, ap, _∙_}
 use mathlib.Core.Bool.{Bool, true, false, cond}
 use mathlib.Core.Option.{Option, none, some}
 use mathlib.Core.List.{List, [], _∷_}
+use native.Mathlib.Omega.{arith}
+use lib.ListN.{length}
 use lib.Ieee.{Float, lt}
 use Rattle.geometry.specs.Arith.{floats}
 use Rattle.geometry.specs.Vector.{Vec2, vec2, Vec3, flat, Weights, Weighed, Triangle}
 use Rattle.geometry.specs.Formula.{blend}
 use Rattle.geometry.specs.Leaf.{cornerWeights}
-use Rattle.offers.specs.Offer.{lowest, exceeds, pick, offered}
-use Rattle.offers.specs.Offers.{numbered}
-use Rattle.cells.specs.Cell.{Cell, cell}
+use Rattle.offers.specs.Offer.{offer, renamed, lowest, exceeds, pick, offered}
+use Rattle.cells.specs.Cell.{Candidate, Cell, cell, numbered}
 use Rattle.cells.specs.Layer.{Layer, at}
 use Rattle.cells.specs.Steps.{written, stepped}
-use Rattle.cells.specs.Laws.Put.{kept-step, never-greater}
+use Rattle.cells.specs.Laws.Put.{same-written, never-greater}
 use Rattle.pixels.specs.Pixel.{centre, centreOf}
 use Rattle.pixels.specs.Laws.{row-at, column-at}
 use Rattle.rules.specs.Scan.{depthAt, weighedDepth, kept, dropped, centreAt}
@@ -22,33 +23,28 @@ use Rattle.rules.specs.Visits.{visited}
 use Rattle.lanes.specs.Answer.{orLowest}
 use Rattle.blocks.specs.Rows.{depthCells}
 
--- ---- −infinity in the place of no depth
+-- ---- a candidate that is not greater
 
-pick-lowest : (c : Cell) (k : ℕ) → pick c (cell lowest k) ≡ c
-unfolding pick exceeds lt
-pick-lowest c k = rw (never-greater lowest refl (c .depth))
+-- at most one candidate
+one-depth : (counted : Float → Bool) (s : Triangle (Vec3 Float)) (q : Vec2 Float) → length (depthAt counted s q) ≤ 1
+unfolding depthAt weighedDepth kept
+one-depth counted s q = go (cornerWeights q (flat (s .p0)) (flat (s .p1)) (flat (s .p2)))
+  where
+    kept-or-not : (c d : Bool) (o : Candidate) → length (cond c (cond d [] (o ∷ [])) []) ≤ 1
+    kept-or-not true true o = omega arith
+    kept-or-not true false o = omega arith
+    kept-or-not false d o = omega arith
 
--- a depth or none
-kept-picked : (c : Cell) (k : ℕ) (s : Triangle (Vec3 Float)) (b : Weights Float) (t : Bool) → dropped b ≡ t → offered c (numbered k (kept s b)) ≡ pick c (cell (orLowest (kept s b)) k)
-unfolding kept orLowest numbered offered
-kept-picked c k s b true e = rw e (sym (pick-lowest c k))
-kept-picked c k s b false e = rw e
+    go : (o : Option (Weighed Float)) → length (weighedDepth counted s o) ≤ 1
+    go none = omega arith
+    go (some a) = kept-or-not (counted (a .s)) (dropped (a .b)) _
 
--- counted or not
-counted-picked : (c : Cell) (k : ℕ) (s : Triangle (Vec3 Float)) (b : Weights Float) (t : Bool) → offered c (numbered k (cond t (kept s b) [])) ≡ pick c (cell (orLowest (cond t (kept s b) [])) k)
-unfolding orLowest numbered offered
-counted-picked c k s b true = kept-picked c k s b (dropped b) refl
-counted-picked c k s b false = sym (pick-lowest c k)
-
-module _ (counted : Float → Bool) where
-  weighed-picked : (c : Cell) (k : ℕ) (s : Triangle (Vec3 Float)) (o : Option (Weighed Float)) → offered c (numbered k (weighedDepth counted s o)) ≡ pick c (cell (orLowest (weighedDepth counted s o)) k)
-  unfolding weighedDepth orLowest numbered offered
-  weighed-picked c k s none = sym (pick-lowest c k)
-  weighed-picked c k s (some a) = counted-picked c k s (a .b) (counted (a .s))
-
-  depth-picked : (c : Cell) (k : ℕ) (s : Triangle (Vec3 Float)) (q : Vec2 Float) → offered c (numbered k (depthAt counted s q)) ≡ pick c (cell (orLowest (depthAt counted s q)) k)
-  unfolding depthAt
-  depth-picked c k s q = weighed-picked c k s _
+-- not greater than what is stored: nothing changes
+left-as-it-is : (c : Cell) (k : ℕ) (cs : List Candidate) → length cs ≤ 1 → lt (c .depth) (orLowest cs) ≡ false → offered c (numbered k cs) ≡ c
+unfolding orLowest numbered renamed offered pick exceeds
+left-as-it-is c k [] h e = refl
+left-as-it-is c k (o ∷ []) h e = rw e
+left-as-it-is c k (o ∷ x ∷ cs) h e = absurd (omega arith)
 
 -- ---- the depth, by what the weights leaf answers
 
@@ -65,28 +61,28 @@ module _ (counted : Float → Bool) (s : Triangle (Vec3 Float)) (q : Vec2 Float)
   unfolding depthAt weighedDepth kept
   dropped-there a f k d = ap (weighedDepth counted s) (sym e ∙ f) ∙ rw (k, d)
 
-  pub kept-there : (a : Weighed Float) {z : Float} → o ≡ some a → counted (a .s) ≡ true → dropped (a .b) ≡ false → z ≡ blend floats (a .b) (s .p0 .z) (s .p1 .z) (s .p2 .z) → depthAt counted s q ≡ z ∷ []
+  pub kept-there : (a : Weighed Float) {z : Float} → o ≡ some a → counted (a .s) ≡ true → dropped (a .b) ≡ false → z ≡ blend floats (a .b) (s .p0 .z) (s .p1 .z) (s .p2 .z) → depthAt counted s q ≡ offer z (a .b) ∷ []
   unfolding depthAt weighedDepth kept
-  kept-there a f k d g = ap (weighedDepth counted s) (sym e ∙ f) ∙ rw (k, d) (ap (λ (x : Float). x ∷ []) (sym g))
+  kept-there a f k d g = ap (weighedDepth counted s) (sym e ∙ f) ∙ rw (k, d) (ap (λ (x : Float). offer x (a .b) ∷ []) (sym g))
 
 -- ---- a visit of the pixel (ix, iy), as the code finds its depth
 
 module _ (counted : Float → Bool) (s : Triangle (Vec3 Float)) (k w ix iy : ℕ) (l : Layer) (inside : ix < w) {qx qy : Float} (ex : qx ≡ centre ix) (ey : qy ≡ centre iy) where
-  -- one step
-  visit-steps : visited (depthCells counted s k w) ((iy * w + ix) ∷ []) l ≡ stepped l (iy * w + ix) k (orLowest (depthAt counted s (vec2 qx qy)))
-  unfolding visited depthCells stepped centreOf
-  visit-steps =
-      rw (row-at w iy ix inside, column-at w iy ix inside, ex, ey)
-      (ap (written l (iy * w + ix)) (depth-picked counted (at l (iy * w + ix)) k s (centreAt ix iy)))
+  -- the one cell that it writes
+  visit-writes : visited (depthCells counted s k w) ((iy * w + ix) ∷ []) l ≡ written l (iy * w + ix) (offered (at l (iy * w + ix)) (numbered k (depthAt counted s (vec2 qx qy))))
+  unfolding visited depthCells centreOf
+  visit-writes = rw (row-at w iy ix inside, column-at w iy ix inside, ex, ey)
 
-  -- a depth is brought
-  pub depth-brought : {z : Float} {new : Layer} → depthAt counted s (vec2 qx qy) ≡ z ∷ [] → new ≡ stepped l (iy * w + ix) k z → new ≡ visited (depthCells counted s k w) ((iy * w + ix) ∷ []) l
-  unfolding orLowest
-  depth-brought {z} {new} e f = f ∙ sym (visit-steps ∙ ap (λ (ds : List Float). stepped l (iy * w + ix) k (orLowest ds)) e)
+  -- a candidate is brought
+  pub depth-brought : {z : Float} {b : Weights Float} {new : Layer} → depthAt counted s (vec2 qx qy) ≡ offer z b ∷ [] → new ≡ stepped l (iy * w + ix) (cell z k b) → new ≡ visited (depthCells counted s k w) ((iy * w + ix) ∷ []) l
+  unfolding stepped numbered renamed offered
+  depth-brought e f = f ∙ sym (visit-writes ∙ ap (λ (cs : List Candidate). written l (iy * w + ix) (offered (at l (iy * w + ix)) (numbered k cs))) e)
 
   -- a visit whose depth, or −infinity, is not greater than what is stored
   pub not-greater : {z : Float} → z ≡ orLowest (depthAt counted s (vec2 qx qy)) → lt (at l (iy * w + ix) .depth) z ≡ false → l ≡ visited (depthCells counted s k w) ((iy * w + ix) ∷ []) l
-  not-greater {z} e f = kept-step l (iy * w + ix) k z f ∙ sym (visit-steps ∙ ap (stepped l (iy * w + ix) k) (sym e))
+  not-greater {z} e f =
+      same-written l (iy * w + ix)
+      ∙ sym (visit-writes ∙ ap (written l (iy * w + ix)) (left-as-it-is (at l (iy * w + ix)) k (depthAt counted s (vec2 qx qy)) (one-depth counted s (vec2 qx qy)) (ap (lt (at l (iy * w + ix) .depth)) (sym e) ∙ f)))
 
   -- nothing is brought
   pub nothing-brought : depthAt counted s (vec2 qx qy) ≡ [] → l ≡ visited (depthCells counted s k w) ((iy * w + ix) ∷ []) l

@@ -10,7 +10,10 @@ use Rattle.rules.specs.Visits.{visited}
 unfoldable pub ifGreater : (ℕ → List Cell) → ℕ → Float → Layer → Layer
 ifGreater os p z l = cond (lt (at l p .depth) z) (visited os (p ∷ []) l) l
 
--- four pixels of column ix, from row iy on
+-- two pixels of column ix, rows iy and iy + 1
+unfoldable pub twoIfGreater : (ℕ → List Cell) → ℕ → ℕ → ℕ → Float → Float → Layer → Layer
+twoIfGreater os w ix iy z0 z1 l = ifGreater os ((iy + 1) * w + ix) z1 (ifGreater os (iy * w + ix) z0 l)
+
+-- four, from row iy on
 unfoldable pub fourIfGreater : (ℕ → List Cell) → ℕ → ℕ → ℕ → Float → Float → Float → Float → Layer → Layer
-fourIfGreater os w ix iy z0 z1 z2 z3 l =
-    ifGreater os ((iy + 3) * w + ix) z3 (ifGreater os ((iy + 2) * w + ix) z2 (ifGreater os ((iy + 1) * w + ix) z1 (ifGreater os (iy * w + ix) z0 l)))
+fourIfGreater os w ix iy z0 z1 z2 z3 l = twoIfGreater os w ix (iy + 2) z2 z3 (twoIfGreater os w ix iy z0 z1 l)

@@ -5,8 +5,7 @@ use mathlib.Core.List.{List}
 use lib.Dec.{ltb}
 use lib.Ieee.{Float}
 use Rattle.geometry.specs.Vector.{Vec3, Triangle}
-use Rattle.offers.specs.Offers.{numbered}
-use Rattle.cells.specs.Cell.{Cell}
+use Rattle.cells.specs.Cell.{Cell, numbered}
 use Rattle.rules.specs.Scan.{centreAt, depthAt}
 use Rattle.rules.specs.Visits.{down}
 

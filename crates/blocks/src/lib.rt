@@ -18,12 +18,13 @@ ghost use Rattle.rules.specs.Visits.{visited};
 ghost use Rattle.boxes.specs.Answer.{screenOf};
 ghost use Rattle.lanes.specs.Answer.{within};
 ghost use Rattle.blocks.specs.Rows.{depthCells, rowsDown, upTo};
-ghost use Rattle.blocks.specs.Greater.{ifGreater, fourIfGreater};
+ghost use Rattle.blocks.specs.Greater.{ifGreater, twoIfGreater, fourIfGreater};
 
-// The visit of the pixel in column ix and row iy: it is brought the depth that the piece has there, if any, and if it counts.
+// The visit of the pixel in column ix and row iy: it is brought the depth that the piece has there and its weights, if any, and if it counts.
 pub fn visit(
     pix2tri: &mut [u32],
     pix2depth: &mut [f32],
+    pix2weights: &mut [f32],
     w: usize,
     h: usize,
     s: Screen,
@@ -33,10 +34,10 @@ pub fn visit(
     iy: usize,
 )
     requires { ⌜ Sized 1 w h ⌝ }
-    requires { ⌜ Spans (layer (now pix2tri) (now pix2depth)) (w * h) ⌝ }
+    requires { ⌜ Spans (layer (now pix2tri) (now pix2depth) (now pix2weights)) (w * h) ⌝ }
     requires { ⌜ ix < w ⌝ }
     requires { ⌜ iy < h ⌝ }
-    ensures { λ _. ⌜ layer (now (pix2tri .exit)) (now (pix2depth .exit)) ≡ visited (depthCells (within side) (screenOf s) number w) ((iy * w + ix) ∷ []) (layer (now (pix2tri .entry)) (now (pix2depth .entry))) ⌝ }
+    ensures { λ _. ⌜ layer (now (pix2tri .exit)) (now (pix2depth .exit)) (now (pix2weights .exit)) ≡ visited (depthCells (within side) (screenOf s) number w) ((iy * w + ix) ∷ []) (layer (now (pix2tri .entry)) (now (pix2depth .entry)) (now (pix2weights .entry))) ⌝ }
 {
     let q = Vec2 {
         x: pixels::centre(ix),
@@ -55,13 +56,24 @@ pub fn visit(
         return;
     }
     let z = geometry::blend(b0, b1, b2, s.z0, s.z1, s.z2);
-    cells::put(pix2tri, pix2depth, iy * w + ix, z, number);
+    cells::put(
+        pix2tri,
+        pix2depth,
+        pix2weights,
+        iy * w + ix,
+        z,
+        number,
+        b0,
+        b1,
+        b2,
+    );
 }
 
 // The same visit, left out where z is not greater than the stored depth.
 fn visit_if_greater(
     pix2tri: &mut [u32],
     pix2depth: &mut [f32],
+    pix2weights: &mut [f32],
     w: usize,
     h: usize,
     s: Screen,
@@ -72,13 +84,24 @@ fn visit_if_greater(
     z: f32,
 )
     requires { ⌜ Sized 1 w h ⌝ }
-    requires { ⌜ Spans (layer (now pix2tri) (now pix2depth)) (w * h) ⌝ }
+    requires { ⌜ Spans (layer (now pix2tri) (now pix2depth) (now pix2weights)) (w * h) ⌝ }
     requires { ⌜ ix < w ⌝ }
     requires { ⌜ iy < h ⌝ }
-    ensures { λ _. ⌜ layer (now (pix2tri .exit)) (now (pix2depth .exit)) ≡ ifGreater (depthCells (within side) (screenOf s) number w) (iy * w + ix) z (layer (now (pix2tri .entry)) (now (pix2depth .entry))) ⌝ }
+    ensures { λ _. ⌜ layer (now (pix2tri .exit)) (now (pix2depth .exit)) (now (pix2weights .exit)) ≡ ifGreater (depthCells (within side) (screenOf s) number w) (iy * w + ix) z (layer (now (pix2tri .entry)) (now (pix2depth .entry)) (now (pix2weights .entry))) ⌝ }
 {
     if pix2depth[iy * w + ix] < z {
-        visit(pix2tri, pix2depth, w, h, s, side, number, ix, iy);
+        visit(
+            pix2tri,
+            pix2depth,
+            pix2weights,
+            w,
+            h,
+            s,
+            side,
+            number,
+            ix,
+            iy,
+        );
     }
 }
 
@@ -99,10 +122,60 @@ fn some_offer(z0: f32, z1: f32, z2: f32, z3: f32) -> bool
     none < z3
 }
 
+// The same for two pixels, one below the other.
+fn visit_two(
+    pix2tri: &mut [u32],
+    pix2depth: &mut [f32],
+    pix2weights: &mut [f32],
+    w: usize,
+    h: usize,
+    s: Screen,
+    side: Side,
+    number: u32,
+    ix: usize,
+    iy: usize,
+    z0: f32,
+    z1: f32,
+)
+    requires { ⌜ Sized 1 w h ⌝ }
+    requires { ⌜ Spans (layer (now pix2tri) (now pix2depth) (now pix2weights)) (w * h) ⌝ }
+    requires { ⌜ ix < w ⌝ }
+    requires { ⌜ iy + 2 ≤ h ⌝ }
+    ensures { λ _. ⌜ layer (now (pix2tri .exit)) (now (pix2depth .exit)) (now (pix2weights .exit)) ≡ twoIfGreater (depthCells (within side) (screenOf s) number w) w ix iy z0 z1 (layer (now (pix2tri .entry)) (now (pix2depth .entry)) (now (pix2weights .entry))) ⌝ }
+{
+    visit_if_greater(
+        pix2tri,
+        pix2depth,
+        pix2weights,
+        w,
+        h,
+        s,
+        side,
+        number,
+        ix,
+        iy,
+        z0,
+    );
+    visit_if_greater(
+        pix2tri,
+        pix2depth,
+        pix2weights,
+        w,
+        h,
+        s,
+        side,
+        number,
+        ix,
+        iy + 1,
+        z1,
+    );
+}
+
 // The same for four pixels downwards, one after the other. Memory is not touched where none can be greater.
 fn visit_greater(
     pix2tri: &mut [u32],
     pix2depth: &mut [f32],
+    pix2weights: &mut [f32],
     w: usize,
     h: usize,
     s: Screen,
@@ -116,18 +189,42 @@ fn visit_greater(
     z3: f32,
 )
     requires { ⌜ Sized 1 w h ⌝ }
-    requires { ⌜ Spans (layer (now pix2tri) (now pix2depth)) (w * h) ⌝ }
+    requires { ⌜ Spans (layer (now pix2tri) (now pix2depth) (now pix2weights)) (w * h) ⌝ }
     requires { ⌜ ix < w ⌝ }
     requires { ⌜ iy + 4 ≤ h ⌝ }
-    ensures { λ _. ⌜ layer (now (pix2tri .exit)) (now (pix2depth .exit)) ≡ fourIfGreater (depthCells (within side) (screenOf s) number w) w ix iy z0 z1 z2 z3 (layer (now (pix2tri .entry)) (now (pix2depth .entry))) ⌝ }
+    ensures { λ _. ⌜ layer (now (pix2tri .exit)) (now (pix2depth .exit)) (now (pix2weights .exit)) ≡ fourIfGreater (depthCells (within side) (screenOf s) number w) w ix iy z0 z1 z2 z3 (layer (now (pix2tri .entry)) (now (pix2depth .entry)) (now (pix2weights .entry))) ⌝ }
 {
     if !some_offer(z0, z1, z2, z3) {
         return;
     }
-    visit_if_greater(pix2tri, pix2depth, w, h, s, side, number, ix, iy, z0);
-    visit_if_greater(pix2tri, pix2depth, w, h, s, side, number, ix, iy + 1, z1);
-    visit_if_greater(pix2tri, pix2depth, w, h, s, side, number, ix, iy + 2, z2);
-    visit_if_greater(pix2tri, pix2depth, w, h, s, side, number, ix, iy + 3, z3);
+    visit_two(
+        pix2tri,
+        pix2depth,
+        pix2weights,
+        w,
+        h,
+        s,
+        side,
+        number,
+        ix,
+        iy,
+        z0,
+        z1,
+    );
+    visit_two(
+        pix2tri,
+        pix2depth,
+        pix2weights,
+        w,
+        h,
+        s,
+        side,
+        number,
+        ix,
+        iy + 2,
+        z2,
+        z3,
+    );
 }
 
 // Rows iy to iy + 4 of column ix, as far as they are before y1: four depths are worked out side by side, and the pixels where one can be greater than what
@@ -135,6 +232,7 @@ fn visit_greater(
 pub fn visit_four(
     pix2tri: &mut [u32],
     pix2depth: &mut [f32],
+    pix2weights: &mut [f32],
     w: usize,
     h: usize,
     s: Screen,
@@ -147,11 +245,11 @@ pub fn visit_four(
     qy: f32,
 )
     requires { ⌜ Sized 1 w h ⌝ }
-    requires { ⌜ Spans (layer (now pix2tri) (now pix2depth)) (w * h) ⌝ }
+    requires { ⌜ Spans (layer (now pix2tri) (now pix2depth) (now pix2weights)) (w * h) ⌝ }
     requires { ⌜ (iy + 4 ≤ h) × (iy < y1) ⌝ }
     requires { ⌜ (y1 ≤ h) × (ix < w) ⌝ }
     requires { ⌜ (qx ≡ centre ix) × (qy ≡ centre iy) ⌝ }
-    ensures { λ _. ⌜ layer (now (pix2tri .exit)) (now (pix2depth .exit)) ≡ visited (depthCells (within side) (screenOf s) number w) (rowsDown w ix iy (upTo y1 (iy + 4))) (layer (now (pix2tri .entry)) (now (pix2depth .entry))) ⌝ }
+    ensures { λ _. ⌜ layer (now (pix2tri .exit)) (now (pix2depth .exit)) (now (pix2weights .exit)) ≡ visited (depthCells (within side) (screenOf s) number w) (rowsDown w ix iy (upTo y1 (iy + 4))) (layer (now (pix2tri .entry)) (now (pix2depth .entry)) (now (pix2weights .entry))) ⌝ }
 {
     let end = pixels::centre(y1 - 1);
     let q1 = qy + 1.0;
@@ -168,6 +266,7 @@ pub fn visit_four(
     visit_greater(
         pix2tri,
         pix2depth,
+        pix2weights,
         w,
         h,
         s,

@@ -10,13 +10,14 @@ ghost use Rattle.rules.specs.Calls.{drawCode, facingOf, draws};
 fn draw_code(
     pix2tri: &[u32],
     pix2depth: &[f32],
+    pix2weights: &[f32],
     tri2vtx: &[u32],
     vtx2xyz: &[f32],
     img_w: usize,
     img_h: usize,
     first: u32,
 ) -> u32
-    ensures { λ r. ⌜ r ≡ drawCode (layer (now (pix2tri .entry)) (now (pix2depth .entry))) (now (tri2vtx .entry)) (now (vtx2xyz .entry)) «img_w» «img_h» first ⌝ }
+    ensures { λ r. ⌜ r ≡ drawCode (layer (now (pix2tri .entry)) (now (pix2depth .entry)) (now (pix2weights .entry))) (now (tri2vtx .entry)) (now (vtx2xyz .entry)) «img_w» «img_h» first ⌝ }
 {
     if !questions::sizes_ok(1, img_w, img_h) {
         return 1;
@@ -24,7 +25,7 @@ fn draw_code(
     if !questions::slices_ok(tri2vtx.len(), vtx2xyz.len()) {
         return 3;
     }
-    if !layers::layer_ok(pix2tri, pix2depth, img_w, img_h) {
+    if !layers::layer_ok(pix2tri, pix2depth, pix2weights, img_w, img_h) {
         return 4;
     }
     if !questions::numbers_ok(first, tri2vtx.len() / 3) {
@@ -50,6 +51,7 @@ fn facing_of(n: u32) -> Facing
 pub fn pix2tri_by_rasterization(
     pix2tri: &mut [u32],
     pix2depth: &mut [f32],
+    pix2weights: &mut [f32],
     tri2vtx: &[u32],
     vtx2xyz: &[f32],
     img_w: usize,
@@ -58,16 +60,26 @@ pub fn pix2tri_by_rasterization(
     first: u32,
     facing: u32,
 ) -> u32
-    ensures { λ r. ⌜ outcome r (layer (now (pix2tri .exit)) (now (pix2depth .exit)))
-        ≡ draws (layer (now (pix2tri .entry)) (now (pix2depth .entry))) (now (tri2vtx .entry)) (now (vtx2xyz .entry)) «img_w» «img_h» (now («transform_world2ndc» .entry)) first facing ⌝ }
+    ensures { λ r. ⌜ outcome r (layer (now (pix2tri .exit)) (now (pix2depth .exit)) (now (pix2weights .exit)))
+        ≡ draws (layer (now (pix2tri .entry)) (now (pix2depth .entry)) (now (pix2weights .entry))) (now (tri2vtx .entry)) (now (vtx2xyz .entry)) «img_w» «img_h» (now («transform_world2ndc» .entry)) first facing ⌝ }
 {
-    let code = draw_code(pix2tri, pix2depth, tri2vtx, vtx2xyz, img_w, img_h, first);
+    let code = draw_code(
+        pix2tri,
+        pix2depth,
+        pix2weights,
+        tri2vtx,
+        vtx2xyz,
+        img_w,
+        img_h,
+        first,
+    );
     if code != 0 {
         return code;
     }
     faces::draw_faces(
         pix2tri,
         pix2depth,
+        pix2weights,
         tri2vtx,
         vtx2xyz,
         img_w,

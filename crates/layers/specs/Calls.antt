@@ -8,9 +8,9 @@ use Rattle.offers.specs.Offer.{pick}
 use Rattle.cells.specs.Cell.{clear}
 use Rattle.cells.specs.Layer.{Layer, at, pixelwise}
 
--- question 4 of a layer of w * h pixels
+-- question 4 of a layer of w * h pixels, with three weights each
 abbrev pub exactLayer : ℕ → ℕ → Layer → Bool
-exactLayer w h l = exact (w * h) (length (l .pix2tri)) && exact (w * h) (length (l .pix2depth))
+exactLayer w h l = exact (w * h) (length (l .pix2tri)) && (exact (w * h) (length (l .pix2depth)) && exact (3 * (w * h)) (length (l .pix2weights)))
 
 unfoldable pub clearCode : Layer → ℕ → ℕ → ℕ
 clearCode l w h = firstNo (ask 1 (sizes 1 w h) ∷ ask 4 (exactLayer w h l) ∷ [])

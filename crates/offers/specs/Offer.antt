@@ -10,6 +10,10 @@ pub record Offer (P : Type 0) : Type 0 where
 abbrev pub offer : {P : Type 0} → Float → P → Offer P
 offer d x = record { depth = d; payload = x }
 
+-- the same depth with another payload
+unfoldable pub renamed : {P Q : Type 0} → (P → Q) → Offer P → Offer Q
+renamed r c = offer (c .depth) (r (c .payload))
+
 -- −infinity
 abbrev pub lowest : Float
 lowest = inf true

@@ -4,13 +4,8 @@ use mathlib.Core.Bool.{Bool, not, cond}
 use mathlib.Core.Path.{_≡_}
 use mathlib.Core.List.{List, [], _∷_, _++_, List·Memᴰ}
 use lib.Dec.{T}
-use lib.Ieee.{Float, lt}
+use lib.Ieee.{lt}
 use Rattle.offers.specs.Offer.{Offer, offer, lowest, exceeds}
-
--- depths, each with the same payload
-unfoldable pub numbered : {P : Type 0} → P → List Float → List (Offer P)
-numbered k [] = []
-numbered k (d ∷ ds) = offer d k ∷ numbered k ds
 
 -- what the faces of a list bring a pixel, in list order, the first of them numbered k; `bring` gives what a face of a number brings it
 unfoldable pub brought : {F P : Type 0} → (ℕ → F → List (Offer P)) → ℕ → List F → List (Offer P)

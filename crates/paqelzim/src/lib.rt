@@ -29,18 +29,20 @@ ghost use Rattle.velocity.specs.Calls.{velocities};
 pub extern "C" fn paqelzim_clear(
     pix2tri: &mut [u32],
     pix2depth: &mut [f32],
+    pix2weights: &mut [f32],
     img_w: usize,
     img_h: usize,
 ) -> u32
-    ensures { λ r. ⌜ outcome r (layer (now (pix2tri .exit)) (now (pix2depth .exit))) ≡ clearing (layer (now (pix2tri .entry)) (now (pix2depth .entry))) «img_w» «img_h» ⌝ }
+    ensures { λ r. ⌜ outcome r (layer (now (pix2tri .exit)) (now (pix2depth .exit)) (now (pix2weights .exit))) ≡ clearing (layer (now (pix2tri .entry)) (now (pix2depth .entry)) (now (pix2weights .entry))) «img_w» «img_h» ⌝ }
 {
-    layers::clear(pix2tri, pix2depth, img_w, img_h)
+    layers::clear(pix2tri, pix2depth, pix2weights, img_w, img_h)
 }
 
 #[no_mangle]
 pub extern "C" fn paqelzim_pix2tri_by_rasterization(
     pix2tri: &mut [u32],
     pix2depth: &mut [f32],
+    pix2weights: &mut [f32],
     tri2vtx: &[u32],
     vtx2xyz: &[f32],
     img_w: usize,
@@ -49,12 +51,13 @@ pub extern "C" fn paqelzim_pix2tri_by_rasterization(
     first: u32,
     facing: u32,
 ) -> u32
-    ensures { λ r. ⌜ outcome r (layer (now (pix2tri .exit)) (now (pix2depth .exit)))
-        ≡ draws (layer (now (pix2tri .entry)) (now (pix2depth .entry))) (now (tri2vtx .entry)) (now (vtx2xyz .entry)) «img_w» «img_h» (now («transform_world2ndc» .entry)) first facing ⌝ }
+    ensures { λ r. ⌜ outcome r (layer (now (pix2tri .exit)) (now (pix2depth .exit)) (now (pix2weights .exit)))
+        ≡ draws (layer (now (pix2tri .entry)) (now (pix2depth .entry)) (now (pix2weights .entry))) (now (tri2vtx .entry)) (now (vtx2xyz .entry)) «img_w» «img_h» (now («transform_world2ndc» .entry)) first facing ⌝ }
 {
     drawing::pix2tri_by_rasterization(
         pix2tri,
         pix2depth,
+        pix2weights,
         tri2vtx,
         vtx2xyz,
         img_w,
@@ -82,20 +85,24 @@ pub extern "C" fn paqelzim_drawing_load(
 pub extern "C" fn paqelzim_join(
     left_pix2tri: &mut [u32],
     left_pix2depth: &mut [f32],
+    left_pix2weights: &mut [f32],
     right_pix2tri: &[u32],
     right_pix2depth: &[f32],
+    right_pix2weights: &[f32],
     img_w: usize,
     img_h: usize,
 ) -> u32
-    ensures { λ r. ⌜ outcome r (layer (now («left_pix2tri» .exit)) (now («left_pix2depth» .exit)))
-        ≡ joining (layer (now («left_pix2tri» .entry)) (now («left_pix2depth» .entry)))
-        (layer (now («right_pix2tri» .entry)) (now («right_pix2depth» .entry))) «img_w» «img_h» ⌝ }
+    ensures { λ r. ⌜ outcome r (layer (now («left_pix2tri» .exit)) (now («left_pix2depth» .exit)) (now («left_pix2weights» .exit)))
+        ≡ joining (layer (now («left_pix2tri» .entry)) (now («left_pix2depth» .entry)) (now («left_pix2weights» .entry)))
+        (layer (now («right_pix2tri» .entry)) (now («right_pix2depth» .entry)) (now («right_pix2weights» .entry))) «img_w» «img_h» ⌝ }
 {
     layers::join(
         left_pix2tri,
         left_pix2depth,
+        left_pix2weights,
         right_pix2tri,
         right_pix2depth,
+        right_pix2weights,
         img_w,
         img_h,
     )

@@ -7,10 +7,10 @@ use lib.ListN.{take}
 use lib.Ieee.{Float}
 use Rattle.lists.specs.Lists.{tabulate}
 use Rattle.geometry.specs.Vector.{Vec3, Triangle}
-use Rattle.cells.specs.Cell.{Cell}
-use Rattle.offers.specs.Offers.{numbered}
+use Rattle.cells.specs.Cell.{Cell, numbered}
 use Rattle.cells.specs.Layer.{Layer}
 use Rattle.cells.specs.Steps.{Spans}
+use Rattle.cells.specs.Laws.Numbers.{numbered-append}
 use Rattle.rules.specs.declared.Facing.{Facing}
 use Rattle.rules.specs.Piece.{Piece}
 use Rattle.rules.specs.Scan.{scans, counts, candidate, screened, centreAt}
@@ -56,11 +56,6 @@ module _ (n : ℕ) (facing : Facing) (w h k : ℕ) (t : Piece) (l : Layer) where
 -- what is left has its length
 pub spans-left : (os : ℕ → List Cell) (l : Layer) {n : ℕ} {new : Layer} → new ≡ painted os n l → Spans new n
 spans-left os l {n} e = rw e (spans-painted os n l)
-
-numbered-append : (k : ℕ) (a b : List Float) → numbered k (a ++ b) ≡ numbered k a ++ numbered k b
-unfolding numbered
-numbered-append k [] b = refl
-numbered-append k (d ∷ a) b = rw (numbered-append k a b)
 
 module _ (facing : Facing) (w h k : ℕ) where
   pub no-pieces : (p : ℕ) → piecesCells facing w h [] k p ≡ []

@@ -1,8 +1,7 @@
 -- What a face's pieces bring a pixel, numbered.
 use Prim.Native.Nat.{ℕ}
 use mathlib.Core.List.{List}
-use Rattle.cells.specs.Cell.{Cell}
-use Rattle.offers.specs.Offers.{numbered}
+use Rattle.cells.specs.Cell.{Cell, numbered}
 use Rattle.rules.specs.declared.Facing.{Facing}
 use Rattle.rules.specs.Piece.{Piece}
 use Rattle.rules.specs.Offers.{piecesBring}

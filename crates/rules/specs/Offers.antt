@@ -3,9 +3,9 @@ use Prim.Native.Nat.{ℕ, _/_, _%_}
 use mathlib.Core.Path.{_≡_}
 use mathlib.Core.List.{List, [], _∷_, _++_}
 use lib.Ieee.{Float}
-use Rattle.cells.specs.Cell.{Cell}
+use Rattle.cells.specs.Cell.{Candidate, Cell, numbered}
 use Rattle.offers.specs.Offers as any
-use Rattle.offers.specs.Offers.{numbered, offersOf, Greatest}
+use Rattle.offers.specs.Offers.{offersOf, Greatest}
 use Rattle.meshes.specs.Mesh.{Face, vertexAt}
 use Rattle.rules.specs.declared.Facing.{Facing}
 use Rattle.rules.specs.Piece.{Piece, pieces}
@@ -27,15 +27,15 @@ facePieces sc f =
     pieces (sc .matrix) (vertexAt (sc .vertices) (f .v0)) (vertexAt (sc .vertices) (f .v1)) (vertexAt (sc .vertices) (f .v2))
 
 -- what a piece brings pixel number p; pixels are numbered row by row
-unfoldable pub pieceBrings : Facing → ℕ → ℕ → Piece → ℕ → List Float
+unfoldable pub pieceBrings : Facing → ℕ → ℕ → Piece → ℕ → List Candidate
 pieceBrings facing w h t p = candidate (counts facing (t .turned)) (screened w h (t .corners)) (p % w) (p / w)
 
-unfoldable pub piecesBring : Facing → ℕ → ℕ → List Piece → ℕ → List Float
+unfoldable pub piecesBring : Facing → ℕ → ℕ → List Piece → ℕ → List Candidate
 piecesBring facing w h [] p = []
 piecesBring facing w h (t ∷ ts) p = pieceBrings facing w h t p ++ piecesBring facing w h ts p
 
--- the depths that a face brings pixel p, its pieces in the Rust's order
-unfoldable pub brings : Scene → Face → ℕ → List Float
+-- what a face brings pixel p, its pieces in the Rust's order
+unfoldable pub brings : Scene → Face → ℕ → List Candidate
 brings sc f p = piecesBring (sc .facing) (sc .width) (sc .height) (facePieces sc f) p
 
 -- what the faces of the list bring pixel p, in list order, the first of them numbered k
@@ -48,4 +48,4 @@ offers sc fs k p = offersOf (brought sc fs k p)
 
 -- face number i, the first of greatest depth at pixel p, holds it
 unfoldable pub Holds : Scene → List Face → ℕ → ℕ → Type 0
-Holds sc fs i p = (c : Cell) × Greatest (offers sc fs 0 p) c × (c .payload ≡ i)
+Holds sc fs i p = (c : Cell) × Greatest (offers sc fs 0 p) c × (c .payload .number ≡ i)

@@ -9,6 +9,8 @@ use Rattle.geometry.specs.Arith.{Arith, floats}
 use Rattle.geometry.specs.Vector.{Vec2, Vec3, vec3, flat, Weights, Weighed, Triangle, triangle}
 use Rattle.geometry.specs.Formula.{blend}
 use Rattle.geometry.specs.Leaf.{cornerWeights}
+use Rattle.offers.specs.Offer.{offer}
+use Rattle.cells.specs.Cell.{Candidate}
 use Rattle.pixels.specs.Pixel.{half, asFloat, pixel, centre, centreOf}
 use Rattle.rules.specs.declared.Facing.{Facing}
 use Rattle.rules.specs.declared.Facing.the-variants.{All, Front}
@@ -81,9 +83,9 @@ dropBelow = floats .neg (ofBits binary32 0x3727_c5ac)
 unfoldable pub dropped : Weights Float → Bool
 dropped b = lt (b .b0) dropBelow || (lt (b .b1) dropBelow || lt (b .b2) dropBelow)
 
--- the depth of a point with weights b: none where the pixel is dropped
-unfoldable pub kept : Triangle (Vec3 Float) → Weights Float → List Float
-kept s b = cond (dropped b) [] (blend floats b (s .p0 .z) (s .p1 .z) (s .p2 .z) ∷ [])
+-- the depth of a point with weights b, and these weights: none where the pixel is dropped
+unfoldable pub kept : Triangle (Vec3 Float) → Weights Float → List Candidate
+kept s b = cond (dropped b) [] (offer (blend floats b (s .p0 .z) (s .p1 .z) (s .p2 .z)) b ∷ [])
 
 -- 02, Point 8: whether the facing counts a candidate whose sum is s, of a piece whose corners are listed turned round or not. With all faces it does; with
 -- front pieces only where s is above 0 or, turned round, below 0.
@@ -93,14 +95,14 @@ counts Front false s = lt (floats .zero) s
 counts Front true s = lt s (floats .zero)
 
 -- A point without weights has no depth, and a candidate whose sum is not counted offers none.
-unfoldable pub weighedDepth : (Float → Bool) → Triangle (Vec3 Float) → Option (Weighed Float) → List Float
+unfoldable pub weighedDepth : (Float → Bool) → Triangle (Vec3 Float) → Option (Weighed Float) → List Candidate
 weighedDepth counted s none = []
 weighedDepth counted s (some a) = cond (counted (a .s)) (kept s (a .b)) []
 
--- the depth that a piece on the screen has at the point q, or none
-unfoldable pub depthAt : (Float → Bool) → Triangle (Vec3 Float) → Vec2 Float → List Float
+-- the depth that a piece on the screen has at the point q, with the weights there, or none
+unfoldable pub depthAt : (Float → Bool) → Triangle (Vec3 Float) → Vec2 Float → List Candidate
 depthAt counted s q = weighedDepth counted s (cornerWeights q (flat (s .p0)) (flat (s .p1)) (flat (s .p2)))
 
--- what the piece brings the pixel (ix, iy): at most one depth
-unfoldable pub candidate : (Float → Bool) → Triangle (Vec3 Float) → ℕ → ℕ → List Float
+-- what the piece brings the pixel (ix, iy): at most one candidate
+unfoldable pub candidate : (Float → Bool) → Triangle (Vec3 Float) → ℕ → ℕ → List Candidate
 candidate counted s ix iy = cond (scans s ix iy) (depthAt counted s (centreAt ix iy)) []

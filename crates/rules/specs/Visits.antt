@@ -6,8 +6,7 @@ use lib.Ieee.{Float}
 use Rattle.lists.specs.Lists.{tabulate, span, filter}
 use Rattle.geometry.specs.Vector.{Vec3, Triangle}
 use Rattle.offers.specs.Offer.{offered}
-use Rattle.offers.specs.Offers.{numbered}
-use Rattle.cells.specs.Cell.{Cell}
+use Rattle.cells.specs.Cell.{Cell, numbered}
 use Rattle.cells.specs.Layer.{Layer, at}
 use Rattle.cells.specs.Steps.{written}
 use Rattle.pixels.specs.Pixel.{pixel, numberIn}

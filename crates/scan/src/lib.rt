@@ -20,6 +20,7 @@ ghost use Rattle.scan.specs.Columns.{boxVisits, Allowed};
 fn visit_rows(
     pix2tri: &mut [u32],
     pix2depth: &mut [f32],
+    pix2weights: &mut [f32],
     w: usize,
     h: usize,
     s: Screen,
@@ -30,15 +31,26 @@ fn visit_rows(
     y1: usize,
 )
     requires { ⌜ Sized 1 w h ⌝ }
-    requires { ⌜ Spans (layer (now pix2tri) (now pix2depth)) (w * h) ⌝ }
+    requires { ⌜ Spans (layer (now pix2tri) (now pix2depth) (now pix2weights)) (w * h) ⌝ }
     requires { ⌜ ix < w ⌝ }
     requires { ⌜ Within y0 y1 h ⌝ }
-    ensures { λ _. ⌜ layer (now (pix2tri .exit)) (now (pix2depth .exit))
-        ≡ visited (depthCells (within side) (screenOf s) number w) (rowsDown w ix y0 y1) (layer (now (pix2tri .entry)) (now (pix2depth .entry))) ⌝ }
+    ensures { λ _. ⌜ layer (now (pix2tri .exit)) (now (pix2depth .exit)) (now (pix2weights .exit))
+        ≡ visited (depthCells (within side) (screenOf s) number w) (rowsDown w ix y0 y1) (layer (now (pix2tri .entry)) (now (pix2depth .entry)) (now (pix2weights .entry))) ⌝ }
 {
     let mut iy = y0;
     while iy < y1 {
-        blocks::visit(pix2tri, pix2depth, w, h, s, side, number, ix, iy);
+        blocks::visit(
+            pix2tri,
+            pix2depth,
+            pix2weights,
+            w,
+            h,
+            s,
+            side,
+            number,
+            ix,
+            iy,
+        );
         iy += 1;
     }
 }
@@ -67,6 +79,7 @@ fn blocks_end(y0: usize, y1: usize, h: usize) -> usize
 fn visit_blocks(
     pix2tri: &mut [u32],
     pix2depth: &mut [f32],
+    pix2weights: &mut [f32],
     w: usize,
     h: usize,
     s: Screen,
@@ -77,11 +90,11 @@ fn visit_blocks(
     y1: usize,
 ) -> usize
     requires { ⌜ Sized 1 w h ⌝ }
-    requires { ⌜ Spans (layer (now pix2tri) (now pix2depth)) (w * h) ⌝ }
+    requires { ⌜ Spans (layer (now pix2tri) (now pix2depth) (now pix2weights)) (w * h) ⌝ }
     requires { ⌜ ix < w ⌝ }
     requires { ⌜ Within y0 y1 h ⌝ }
-    ensures { λ r. ⌜ (y0 ≤ r) × (layer (now (pix2tri .exit)) (now (pix2depth .exit))
-        ≡ visited (depthCells (within side) (screenOf s) number w) (rowsDown w ix y0 (upTo y1 r)) (layer (now (pix2tri .entry)) (now (pix2depth .entry)))) ⌝ }
+    ensures { λ r. ⌜ (y0 ≤ r) × (layer (now (pix2tri .exit)) (now (pix2depth .exit)) (now (pix2weights .exit))
+        ≡ visited (depthCells (within side) (screenOf s) number w) (rowsDown w ix y0 (upTo y1 r)) (layer (now (pix2tri .entry)) (now (pix2depth .entry)) (now (pix2weights .entry)))) ⌝ }
 {
     let end = blocks_end(y0, y1, h);
     let qx = pixels::centre(ix);
@@ -91,6 +104,7 @@ fn visit_blocks(
         blocks::visit_four(
             pix2tri,
             pix2depth,
+            pix2weights,
             w,
             h,
             s,
@@ -112,6 +126,7 @@ fn visit_blocks(
 fn visit_column(
     pix2tri: &mut [u32],
     pix2depth: &mut [f32],
+    pix2weights: &mut [f32],
     w: usize,
     h: usize,
     s: Screen,
@@ -122,15 +137,39 @@ fn visit_column(
     y1: usize,
 )
     requires { ⌜ Sized 1 w h ⌝ }
-    requires { ⌜ Spans (layer (now pix2tri) (now pix2depth)) (w * h) ⌝ }
+    requires { ⌜ Spans (layer (now pix2tri) (now pix2depth) (now pix2weights)) (w * h) ⌝ }
     requires { ⌜ ix < w ⌝ }
     requires { ⌜ Within y0 y1 h ⌝ }
-    ensures { λ _. ⌜ layer (now (pix2tri .exit)) (now (pix2depth .exit))
-        ≡ visited (depthCells (within side) (screenOf s) number w) (rowsDown w ix y0 y1) (layer (now (pix2tri .entry)) (now (pix2depth .entry))) ⌝ }
+    ensures { λ _. ⌜ layer (now (pix2tri .exit)) (now (pix2depth .exit)) (now (pix2weights .exit))
+        ≡ visited (depthCells (within side) (screenOf s) number w) (rowsDown w ix y0 y1) (layer (now (pix2tri .entry)) (now (pix2depth .entry)) (now (pix2weights .entry))) ⌝ }
 {
-    let left = visit_blocks(pix2tri, pix2depth, w, h, s, side, number, ix, y0, y1);
+    let left = visit_blocks(
+        pix2tri,
+        pix2depth,
+        pix2weights,
+        w,
+        h,
+        s,
+        side,
+        number,
+        ix,
+        y0,
+        y1,
+    );
     if left < y1 {
-        visit_rows(pix2tri, pix2depth, w, h, s, side, number, ix, left, y1);
+        visit_rows(
+            pix2tri,
+            pix2depth,
+            pix2weights,
+            w,
+            h,
+            s,
+            side,
+            number,
+            ix,
+            left,
+            y1,
+        );
     }
 }
 
@@ -148,6 +187,7 @@ fn allowed(left: usize, rows: usize) -> usize
 pub fn visit_box(
     pix2tri: &mut [u32],
     pix2depth: &mut [f32],
+    pix2weights: &mut [f32],
     w: usize,
     h: usize,
     s: Screen,
@@ -157,11 +197,11 @@ pub fn visit_box(
     n: usize,
 )
     requires { ⌜ Sized 1 w h ⌝ }
-    requires { ⌜ Spans (layer (now pix2tri) (now pix2depth)) (w * h) ⌝ }
+    requires { ⌜ Spans (layer (now pix2tri) (now pix2depth) (now pix2weights)) (w * h) ⌝ }
     requires { ⌜ Within (b .x0) (b .x1) w ⌝ }
     requires { ⌜ Within (b .y0) (b .y1) h ⌝ }
-    ensures { λ _. ⌜ layer (now (pix2tri .exit)) (now (pix2depth .exit))
-        ≡ visited (depthCells (within side) (screenOf s) number w) (take n (boxVisits w b)) (layer (now (pix2tri .entry)) (now (pix2depth .entry))) ⌝ }
+    ensures { λ _. ⌜ layer (now (pix2tri .exit)) (now (pix2depth .exit)) (now (pix2weights .exit))
+        ≡ visited (depthCells (within side) (screenOf s) number w) (take n (boxVisits w b)) (layer (now (pix2tri .entry)) (now (pix2depth .entry)) (now (pix2weights .entry))) ⌝ }
 {
     let rows = b.y1 - b.y0;
     let mut left = n;
@@ -171,6 +211,7 @@ pub fn visit_box(
         visit_column(
             pix2tri,
             pix2depth,
+            pix2weights,
             w,
             h,
             s,

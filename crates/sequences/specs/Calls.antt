@@ -9,15 +9,16 @@ use Rattle.cells.specs.Layer.{Layer, layer}
 use Rattle.layers.specs.Calls.{clearing, joining}
 use Rattle.rules.specs.Calls.{draws}
 
--- the layers' buffers: map i and depths i are layer i
+-- the layers' buffers: map i, depths i and weights i are layer i
 pub record Store : Type 0 where
   pub maps : ℕ → List ℕ
   pub depths : ℕ → List Float
+  pub weights : ℕ → List Float
 
 abbrev pub layerOf : Store → ℕ → Layer
-layerOf s i = layer (s .maps i) (s .depths i)
+layerOf s i = layer (s .maps i) (s .depths i) (s .weights i)
 
--- A buffer that a call is lent: one of the store's, or any other. So a call may mix one layer's map with another's depths.
+-- A buffer that a call is lent: one of the store's of its kind, or any other. So a call may mix one layer's map with another's depths and a third's weights.
 pub data Lent (A : Type 0) : Type 0 where
   held : ℕ → Lent A
   other : List A → Lent A
@@ -34,13 +35,14 @@ returned s (other ys) xs j = s j
 pub record LentLayer : Type 0 where
   pub map : Lent ℕ
   pub depth : Lent Float
+  pub weights : Lent Float
 
 abbrev pub lentLayer : Store → LentLayer → Layer
-lentLayer s l = layer (contents (s .maps) (l .map)) (contents (s .depths) (l .depth))
+lentLayer s l = layer (contents (s .maps) (l .map)) (contents (s .depths) (l .depth)) (contents (s .weights) (l .weights))
 
 -- layer i, whole
 abbrev pub whole : ℕ → LentLayer
-whole i = record { map = held i; depth = held i }
+whole i = record { map = held i; depth = held i; weights = held i }
 
 pub data Call : Type 0 where
   clear : LentLayer → ℕ → ℕ → Call
@@ -65,6 +67,7 @@ after s c =
     record {
       maps = returned (s .maps) (written c .map) (outcomeOf s c .left .pix2tri);
       depths = returned (s .depths) (written c .depth) (outcomeOf s c .left .pix2depth);
+      weights = returned (s .weights) (written c .weights) (outcomeOf s c .left .pix2weights);
     }
 
 unfoldable pub afterAll : Store → List Call → Store

@@ -8,6 +8,7 @@ use Rattle.questions.specs.Questions.{empty}
 use Rattle.offers.specs.Offers.{Shows}
 use Rattle.offers.specs.Thinning.{keptFrom, renumber}
 use Rattle.offers.specs.Laws.Greatest.{first-of-greatest}
+use Rattle.cells.specs.Cell.{noHit}
 use Rattle.cells.specs.Layer.{Layer, at}
 use Rattle.cells.specs.Steps.{Spans}
 use Rattle.meshes.specs.Mesh.{Face, facesOf}
@@ -68,12 +69,13 @@ pub record Pictures (c : Case) : Type 0 where
   -- both layers have the image's lengths
   pub full-spans : Spans (full (c .mesh)) (pixelCount (c .mesh .sc))
   pub final-spans : Spans (final c) (pixelCount (c .mesh .sc))
-  -- the last layer has the full drawing's depth bits and, renumbered, its map
+  -- the last layer has the full drawing's depth and weight bits and, renumbered, its map
   pub depths : final c .pix2depth ≡ full (c .mesh) .pix2depth
+  pub weights : final c .pix2weights ≡ full (c .mesh) .pix2weights
   pub maps : final c .pix2tri ≡ map (renumber empty (c .mesh .keep)) (full (c .mesh) .pix2tri)
-  -- each covered pixel names the first face of greatest depth and has that depth; every other pixel is clear
-  pub full-shows : (p : ℕ) → p < pixelCount (c .mesh .sc) → Shows empty (offers (c .mesh .sc) (faces (c .mesh)) 0 p) (at (full (c .mesh)) p)
-  pub final-shows : (p : ℕ) → p < pixelCount (c .mesh .sc) → Shows empty (offers (c .mesh .sc) (keptFaces (c .mesh)) 0 p) (at (final c) p)
+  -- each covered pixel has number, depth and weights of the first offer of greatest depth; every other pixel is clear, weights too
+  pub full-shows : (p : ℕ) → p < pixelCount (c .mesh .sc) → Shows noHit (offers (c .mesh .sc) (faces (c .mesh)) 0 p) (at (full (c .mesh)) p)
+  pub final-shows : (p : ℕ) → p < pixelCount (c .mesh .sc) → Shows noHit (offers (c .mesh .sc) (keptFaces (c .mesh)) 0 p) (at (final c) p)
 
 module _ (m : Cut) where
   pub mesh-answered : Answered (m .sc) (m .tri2vtx)
@@ -83,9 +85,9 @@ module _ (m : Cut) where
   unfolding draws fresh
   full-is = rw (m .accepted, m .named)
 
-  shows-of : (fs : List Face) (l : Layer) → l ≡ fresh (m .sc) fs 0 → (p : ℕ) → p < pixelCount (m .sc) → Shows empty (offers (m .sc) fs 0 p) (at l p)
+  shows-of : (fs : List Face) (l : Layer) → l ≡ fresh (m .sc) fs 0 → (p : ℕ) → p < pixelCount (m .sc) → Shows noHit (offers (m .sc) fs 0 p) (at l p)
   unfolding offers
-  shows-of fs l e p h = rw (e, fresh-at (m .sc) fs 0 p h) (first-of-greatest empty (brought (m .sc) fs 0 p))
+  shows-of fs l e p h = rw (e, fresh-at (m .sc) fs 0 p h) (first-of-greatest noHit (brought (m .sc) fs 0 p))
 
   spans-of : (fs : List Face) (l : Layer) → l ≡ fresh (m .sc) fs 0 → Spans l (pixelCount (m .sc))
   spans-of fs l e = rw e (fresh-spans (m .sc) fs 0)
@@ -112,6 +114,7 @@ module _ (c : Case) where
         full-spans = spans-of m (faces m) (full m) (full-is m);
         final-spans = spans-of m (keptFaces m) (final c) (final-is .1);
         depths = ap (λ (l : Layer). l .pix2depth) final-renumbered;
+        weights = ap (λ (l : Layer). l .pix2weights) final-renumbered;
         maps = ap (λ (l : Layer). l .pix2tri) final-renumbered;
         full-shows = shows-of m (faces m) (full m) (full-is m);
         final-shows = shows-of m (keptFaces m) (final c) (final-is .1);

@@ -6,11 +6,10 @@ use mathlib.Core.List.{List, [], _∷_, _++_}
 use native.Mathlib.Omega.{arith}
 use lib.Dec.{lit<}
 use lib.Ieee.{nan}
-use Rattle.questions.specs.Questions.{empty}
 use Rattle.offers.specs.Thinning.{keptFrom}
 use Rattle.offers.specs.Laws.Joins.{won}
-use Rattle.cells.specs.Cell.{Cell, cell}
-use Rattle.cells.specs.Layer.{layer}
+use Rattle.cells.specs.Cell.{Cell, cell, noHit}
+use Rattle.cells.specs.Layer.{layer, weightsAt}
 use Rattle.layers.specs.Calls.{clearing, clearCode, joining, joinCode}
 use Rattle.meshes.specs.Mesh.{Face, face, facesOf}
 use Rattle.rules.specs.declared.Facing.{Facing}
@@ -22,7 +21,7 @@ use Rattle.sequences.specs.Plan.{flat, joined, nothing, runs, changedAt,
 use Rattle.sequences.specs.Case.{Cut, Case, full}
 use Rattle.sequences.specs.Instance.{keep, not-held}
 use Rattle.sequences.specs.Example as example
-use Rattle.sequences.specs.Example.{matrix, corners, quarter, half, four, faced}
+use Rattle.sequences.specs.Example.{matrix, corners, quarter, half, four, twelve, inT, inExchangedT, faced}
 
 -- T(0.25), and T(0.5), which is nearer
 abbrev seen : Facing → Scene
@@ -44,7 +43,7 @@ tri2vtx = 3 ∷ 4 ∷ 5 ∷ 0 ∷ 2 ∷ 1 ∷ 3 ∷ 4 ∷ 5 ∷ 0 ∷ 2 ∷ 1 �
 unfoldable pub fs : List Face
 fs = nearer ∷ front ∷ nearer ∷ front ∷ []
 
-shown : (p : ℕ) → p < 4 → won empty (brought sc fs 0 p) ≡ cell quarter 1
+shown : (p : ℕ) → p < 4 → won noHit (brought sc fs 0 p) ≡ cell quarter 1 (weightsAt inExchangedT p)
 unfolding faced fs
 shown zero h = refl
 shown (suc zero) h = refl
@@ -53,7 +52,7 @@ shown (suc (suc (suc zero))) h = refl
 shown (suc (suc (suc (suc p)))) h = absurd (omega arith)
 
 -- with all faces the nearer one would be shown
-pub shown-of-all : (p : ℕ) → p < 4 → won empty (brought (seen All) fs 0 p) ≡ cell half 0
+pub shown-of-all : (p : ℕ) → p < 4 → won noHit (brought (seen All) fs 0 p) ≡ cell half 0 (weightsAt inT p)
 unfolding faced fs
 shown-of-all zero h = refl
 shown-of-all (suc zero) h = refl
@@ -67,15 +66,15 @@ rs = (front ∷ []) ∷ (nearer ∷ front ∷ []) ∷ []
 -- face 0 is taken out
 pub mesh : Cut
 unfolding faced fs joined keptFrom facesOf
-mesh = record { tri2vtx = tri2vtx; sc = sc; accepted = refl; facing = 2; named = refl; keep = keep; idle = λ i l. not-held sc fs 4 (λ p h. ap (λ (c : Cell). c .payload) (shown p h)) i; rs = rs; cut = refl }
+mesh = record { tri2vtx = tri2vtx; sc = sc; accepted = refl; facing = 2; named = refl; keep = keep; idle = λ i l. not-held sc fs 4 (λ p h. ap (λ (c : Cell). c .payload .number) (shown p h)) i; rs = rs; cut = refl }
 
 -- the whole drawing shows the front piece behind the nearer one
-pub pictured : full mesh ≡ layer (four 1) (four quarter)
+pub pictured : full mesh ≡ layer (four 1) (four quarter) inExchangedT
 unfolding faced mesh
 pictured = refl
 
 abbrev start : Store
-start = record { maps = λ i. four 9; depths = λ i. four nan }
+start = record { maps = λ i. four 9; depths = λ i. four nan; weights = λ i. twelve nan }
 
 pub front-pieces : Case
 unfolding faced mesh flat joined after clearing clearCode joining joinCode
@@ -88,9 +87,9 @@ front-pieces =
           record {
             stands = changedAt (changedAt (changedAt (changedAt (changedAt (λ i. nothing) 0 plan.blank) 0 (runs 0 1)) 1 plan.blank) 1 (runs 1 1)) 0 (runs 0 2);
             keeps =
-                clears 0 (record { numbers = refl; depths = refl })
+                clears 0 (record { numbers = refl; depths = refl; weights = refl })
                 (plan.draws 1 0 0 refl (lit< tt) refl
-                (clears 1 (record { numbers = refl; depths = refl })
+                (clears 1 (record { numbers = refl; depths = refl; weights = refl })
                 (plan.draws 4294967295 1 1 refl (lit< tt) refl
                 (joins 0 1 0 1 1 (λ e. omega arith) refl refl over))));
             last = 0;

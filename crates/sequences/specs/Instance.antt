@@ -6,24 +6,25 @@ use mathlib.Core.Bool.{Bool, true, false, not, cond}
 use mathlib.Core.List.{List, [], _∷_, _++_}
 use native.Mathlib.Omega.{arith}
 use lib.Dec.{T, eqb, eqb→eq, lit<}
+use lib.ListN.{take}
 use lib.Ieee.{nan}
-use Rattle.questions.specs.Questions.{empty}
 use Rattle.offers.specs.Thinning.{keptFrom}
 use Rattle.offers.specs.Laws.Greatest.{first-of-greatest}
 use Rattle.offers.specs.Laws.Joins.{won}
 use Rattle.offers.specs.Laws.Removal.{with-greatest}
-use Rattle.cells.specs.Cell.{Cell}
+use Rattle.cells.specs.Cell.{Cell, noHit}
+use Rattle.cells.specs.Steps.{Spans}
 use Rattle.layers.specs.Calls.{clearing, clearCode, joining, joinCode}
 use Rattle.meshes.specs.Mesh.{Face, face, facesOf}
 use Rattle.rules.specs.declared.Facing.the-variants.{All}
 use Rattle.rules.specs.Offers.{Scene, scene, brought, offers, Holds}
-use Rattle.rules.specs.Calls.{draws}
-use Rattle.sequences.specs.Calls.{Store, Call, clear, draw, join, held, other, whole, after, afterAll}
+use Rattle.rules.specs.Calls.{facingOf}
+use Rattle.sequences.specs.Calls.{Store, layerOf, Call, clear, draw, join, held, other, whole, outcomeOf, after, afterAll}
 use Rattle.sequences.specs.Plan as plan
 use Rattle.sequences.specs.Plan.{flat, joined, Stands, nothing, runs, changedAt, Keeps, over, clears, joins, refused, clearOf, drawOf, joinOf}
 use Rattle.sequences.specs.Case.{Cut, Case}
 use Rattle.sequences.specs.Example as example
-use Rattle.sequences.specs.Example.{matrix, corners, quarter, half, four, faced}
+use Rattle.sequences.specs.Example.{matrix, corners, quarter, half, four, twelve, faced}
 
 -- T(0.25), T(0.5), T(0.25), T(0.5): face 1 holds every pixel, face 3 ties with it
 abbrev sc : Scene
@@ -49,7 +50,7 @@ keep k = not (eqb k 0)
 abbrev rs : List (List Face)
 rs = [] ∷ (front ∷ []) ∷ [] ∷ (back ∷ front ∷ []) ∷ [] ∷ []
 
-shown : (p : ℕ) → p < 4 → won empty (brought sc fs 0 p) .payload ≡ 1
+shown : (p : ℕ) → p < 4 → won noHit (brought sc fs 0 p) .payload .number ≡ 1
 unfolding faced fs
 shown zero h = refl
 shown (suc zero) h = refl
@@ -58,12 +59,12 @@ shown (suc (suc (suc zero))) h = refl
 shown (suc (suc (suc (suc p)))) h = absurd (omega arith)
 
 -- where face 1 is shown, face 0 holds no pixel
-pub not-held : (sc : Scene) (fs : List Face) (n : ℕ) → ((p : ℕ) → p < n → won empty (brought sc fs 0 p) .payload ≡ 1) → (i : ℕ) → T (not (keep i)) → (p : ℕ) → p < n → Holds sc fs i p → ⊥
+pub not-held : (sc : Scene) (fs : List Face) (n : ℕ) → ((p : ℕ) → p < n → won noHit (brought sc fs 0 p) .payload .number ≡ 1) → (i : ℕ) → T (not (keep i)) → (p : ℕ) → p < n → Holds sc fs i p → ⊥
 unfolding Holds offers
 not-held sc fs n shown i t p h holds =
     let e : i ≡ 0 = eqb→eq i 0 (twice (eqb i 0) t) in
-    let w = with-greatest (first-of-greatest empty (brought sc fs 0 p)) (holds .1) in
-    let one : holds .0 .payload ≡ 1 = ap (λ (c : Cell). c .payload) (sym w) ∙ shown p h in
+    let w = with-greatest (first-of-greatest noHit (brought sc fs 0 p)) (holds .1) in
+    let one : holds .0 .payload .number ≡ 1 = ap (λ (c : Cell). c .payload .number) (sym w) ∙ shown p h in
     omega (arith, one, holds .2, e)
   where
     twice : (b : Bool) → T (not (not b)) → T b
@@ -74,19 +75,23 @@ pub mesh : Cut
 unfolding faced fs joined keptFrom facesOf
 mesh = record { tri2vtx = tri2vtx; sc = sc; accepted = refl; facing = 0; named = refl; keep = keep; idle = λ i l. not-held sc fs 4 shown i; rs = rs; cut = refl }
 
--- layers of anything; layer 5 has depths of another length
+-- layers of anything; layer 5 has depths of another length, and layer 6 one weight a pixel
 abbrev start : Store
-start = record { maps = λ i. four 9; depths = λ i. cond (eqb i 5) (nan ∷ []) (four nan) }
+start = record { maps = λ i. four 9; depths = λ i. cond (eqb i 5) (nan ∷ []) (four nan); weights = λ i. cond (eqb i 6) (four nan) (twelve nan) }
 
--- refused: a layer joined with itself, at no width; one layer's map with the depths of another, of a wrong length; buffers of nobody
+-- refused: a layer joined with itself, at no width; the map of one layer with another's weights and the depths of a third, of a wrong length; a layer with the
+-- weights of another, of a wrong length; buffers of nobody
 abbrev ofItself : Call
 ofItself = join (whole 3) (whole 3) 0 2
 
 abbrev mixed : Call
-mixed = clear (record { map = held 0; depth = held 5 }) 2 2
+mixed = clear (record { map = held 0; depth = held 5; weights = held 1 }) 2 2
+
+abbrev misweighed : Call
+misweighed = join (whole 0) (record { map = held 4; depth = held 4; weights = held 6 }) 2 2
 
 abbrev foreign : Call
-foreign = draw (record { map = other (1 ∷ []); depth = other [] }) tri2vtx (sc .vertices) 2 2 (sc .matrix) 0 0
+foreign = draw (record { map = other (1 ∷ []); depth = other []; weights = other (nan ∷ []) }) tri2vtx (sc .vertices) 2 2 (sc .matrix) 0 0
 
 -- runs 3, 0 and 4 drawn, 3 joined with 4, then 1 and 2 drawn
 abbrev made : List Call
@@ -99,6 +104,7 @@ made =
     ∷ clearOf sc rs 4
     ∷ mixed
     ∷ drawOf sc rs 0 4 4
+    ∷ misweighed
     ∷ joinOf sc rs 3 4
     ∷ clearOf sc rs 1
     ∷ drawOf sc rs 0 1 1
@@ -115,26 +121,61 @@ ready =
 apart : {i j : ℕ} → (i < j) → i ≡ j → ⊥
 apart l e = omega arith
 
-not-0 : (n : ℕ) → suc n ≡ 0 → ⊥
-not-0 n e = omega arith
+not-0 : {m n : ℕ} → m ≡ suc n → m ≡ 0 → ⊥
+not-0 e f = omega arith
+
+-- the layers after the first n calls
+abbrev stage : ℕ → Store
+stage n = afterAll start (take n made)
+
+-- what is computed of them: the lengths of a layer before its clear, and the code of each refused call
+record Computed : Type 0 where
+  clear-3 : Spans (layerOf (stage 0) 3) 4
+  clear-0 : Spans (layerOf (stage 2) 0) 4
+  of-itself : outcomeOf (stage 3) ofItself .code ≡ 1
+  clear-4 : Spans (layerOf (stage 5) 4) 4
+  is-mixed : outcomeOf (stage 6) mixed .code ≡ 4
+  is-misweighed : outcomeOf (stage 8) misweighed .code ≡ 4
+  -- by the weights alone
+  well-weighed : outcomeOf (stage 8) (join (whole 0) (whole 4) 2 2) .code ≡ 0
+  clear-1 : Spans (layerOf (stage 10) 1) 4
+  is-foreign : outcomeOf (stage 12) foreign .code ≡ 4
+  clear-2 : Spans (layerOf (stage 13) 2) 4
+
+computed : Computed
+unfolding faced flat joined after afterAll clearing clearCode joining joinCode
+computed =
+    record {
+      clear-3 = record { numbers = refl; depths = refl; weights = refl };
+      clear-0 = record { numbers = refl; depths = refl; weights = refl };
+      of-itself = refl;
+      clear-4 = record { numbers = refl; depths = refl; weights = refl };
+      is-mixed = refl;
+      is-misweighed = refl;
+      well-weighed = refl;
+      clear-1 = record { numbers = refl; depths = refl; weights = refl };
+      is-foreign = refl;
+      clear-2 = record { numbers = refl; depths = refl; weights = refl };
+    }
 
 making : (cs : List Call) (g : ℕ → Stands) → Keeps sc rs ready (afterAll start made) cs g → Keeps sc rs (λ i. nothing) start (made ++ cs) g
-unfolding faced flat joined ready after afterAll clearing clearCode joining joinCode
+unfolding ready afterAll facingOf
 making cs g k =
-    clears 3 (record { numbers = refl; depths = refl })
+    clears 3 (computed .clear-3)
     (plan.draws 0 3 3 refl (lit< tt) refl
-    (clears 0 (record { numbers = refl; depths = refl })
-    (refused ofItself (not-0 0)
+    (clears 0 (computed .clear-0)
+    (refused ofItself (not-0 (computed .of-itself))
     (plan.draws 0 0 0 refl (lit< tt) refl
-    (clears 4 (record { numbers = refl; depths = refl })
-    (refused mixed (not-0 3)
+    (clears 4 (computed .clear-4)
+    (refused mixed (not-0 (computed .is-mixed))
     (plan.draws 0 4 4 refl (lit< tt) refl
+    (refused misweighed (not-0 (computed .is-misweighed))
     (joins 3 4 3 1 1 (apart (lit< tt)) refl refl
-    (clears 1 (record { numbers = refl; depths = refl })
+    (clears 1 (computed .clear-1)
     (plan.draws 0 1 1 refl (lit< tt) refl
-    (refused foreign (not-0 3)
-    (clears 2 (record { numbers = refl; depths = refl })
-    (plan.draws 0 2 2 refl (lit< tt) refl k)))))))))))))
+    (refused foreign (not-0 (computed .is-foreign))
+    (clears 2 (computed .clear-2)
+    (plan.draws 0 2 2 refl (lit< tt) refl k))))))))))))))
 
 -- ((0 1) 2) (3 4)
 pub left-first : Case

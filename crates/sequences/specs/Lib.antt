@@ -6,6 +6,7 @@ pub mod Mesh
 pub mod Redrawn
 pub mod Thinned
 pub mod Case
+pub mod Sources
 pub mod Bracketing
 pub mod Example
 pub mod Instance

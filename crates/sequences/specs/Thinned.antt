@@ -8,13 +8,14 @@ use native.Mathlib.Omega.{arith}
 use lib.Dec.{T}
 use lib.ListN.{length}
 use Rattle.questions.specs.Questions.{allBelow, empty, mostCount}
-use Rattle.offers.specs.Offers.{numbered}
+use Rattle.offers.specs.Offer.{renamed}
 use Rattle.offers.specs.Thinning.{keptFrom, keptBefore, renumber}
 use Rattle.offers.specs.Laws.Order.{test}
 use Rattle.offers.specs.Laws.Joins.{won}
-use Rattle.offers.specs.Laws.Renaming.{renamed, numbered-payload, numbered-renamed}
 use Rattle.offers.specs.Laws.Faces.{won-thinned}
 use Rattle.offers.specs.Laws.Thinning.{renumber-empty, renumber-face, kept-apart, kept-length, kept-at}
+use Rattle.cells.specs.Cell.{Hit, hit, noHit, numbered}
+use Rattle.cells.specs.Laws.Numbers.{numbered-number, withNumber, numbered-renamed}
 use Rattle.meshes.specs.Mesh.{Face, face, faceAt}
 use Rattle.meshes.specs.View.{entryAt}
 use Rattle.views.specs.Alike.{Alike}
@@ -46,16 +47,16 @@ module _ (sc : Scene) (fs : List Face) (keep : ℕ → Bool) (few : length fs �
 
   -- ---- the drawing
 
-  brings-moved : (p k : ℕ) (f : Face) → k < mostCount → map (renamed newNumber) (numbered k (brings sc f p)) ≡ numbered (keptBefore keep k) (brings sc f p)
+  brings-moved : (p k : ℕ) (f : Face) → k < mostCount → map (renamed (withNumber newNumber)) (numbered k (brings sc f p)) ≡ numbered (keptBefore keep k) (brings sc f p)
   brings-moved p k f h =
       numbered-renamed newNumber k (brings sc f p) ∙ ap (λ (n : ℕ). numbered n (brings sc f p)) (renumber-face empty keep k (λ e. omega arith))
 
-  pixel-thinned : (p : ℕ) → p < pixelCount sc → won empty (brought sc kept 0 p) ≡ renamed newNumber (won empty (brought sc fs 0 p))
-  unfolding brought Holds offers
+  pixel-thinned : (p : ℕ) → p < pixelCount sc → won noHit (brought sc kept 0 p) ≡ renamed (withNumber newNumber) (won noHit (brought sc fs 0 p))
+  unfolding brought Holds offers withNumber
   pixel-thinned p h =
-      won-thinned (λ n. n) (λ j f. numbered j (brings sc f p)) (λ k f o. numbered-payload k (brings sc f p) o) keep newNumber (λ j f. numbered j (brings sc f p)) mostCount (brings-moved p) empty empty
-      (renumber-empty empty keep) fs few
-      (λ c g. holder-kept (c .payload) p h (c, g, refl))
+      won-thinned (λ (h : Hit). h .number) (λ j f. numbered j (brings sc f p)) (λ k f o. numbered-number k (brings sc f p) o) keep (withNumber newNumber) (λ j f. numbered j (brings sc f p)) mostCount (brings-moved p) noHit noHit
+      (ap (λ (n : ℕ). hit n (noHit .weights)) (renumber-empty empty keep)) fs few
+      (λ c g. holder-kept (c .payload .number) p h (c, g, refl))
 
   pub thinned : fresh sc kept 0 ≡ renumbered newNumber (fresh sc fs 0)
   thinned = redrawn sc newNumber fs kept pixel-thinned

@@ -9,8 +9,9 @@ use lib.Dec.{eqb, lit<}
 use lib.ListN.{length, take, drop, take-append-drop}
 use Rattle.questions.specs.Questions.{Outcome, outcome, empty}
 use Rattle.offers.specs.Thinning.{keptFrom, keptBefore, renumber}
-use Rattle.cells.specs.Layer.{Layer, layer}
+use Rattle.cells.specs.Layer.{Layer}
 use Rattle.cells.specs.Steps.{Spans}
+use Rattle.cells.specs.Laws.Cells.{same-buffers}
 use Rattle.layers.specs.Calls.{clearing, joining}
 use Rattle.meshes.specs.Mesh.{Face, facesOf}
 use Rattle.rules.specs.Offers.{Scene}
@@ -86,7 +87,12 @@ module _ (sc : Scene) (facing : ℕ) (named : facingOf facing ≡ sc .facing) (t
   cut = rw append-nil (take-append-drop count fs ∙ sym (kept-every 0 fs))
 
   abbrev start : Store
-  start = record { maps = λ i. cond (eqb i 0) (left .pix2tri) (right .pix2tri); depths = λ i. cond (eqb i 0) (left .pix2depth) (right .pix2depth) }
+  start =
+      record {
+        maps = λ i. cond (eqb i 0) (left .pix2tri) (right .pix2tri);
+        depths = λ i. cond (eqb i 0) (left .pix2depth) (right .pix2depth);
+        weights = λ i. cond (eqb i 0) (left .pix2weights) (right .pix2weights);
+      }
 
   -- clear, draw, clear, draw, join
   twoRuns : Spans left (pixelCount sc) → Spans right (pixelCount sc) → Case
@@ -116,7 +122,7 @@ module _ (sc : Scene) (facing : ℕ) (named : facingOf facing ≡ sc .facing) (t
     unfolding twoRuns
     same-layer =
         let p = pictures (twoRuns sl sr) in
-        ap₂ layer (p .maps ∙ map-every (full (twoRuns sl sr .mesh) .pix2tri)) (p .depths)
+        same-buffers (p .maps ∙ map-every (full (twoRuns sl sr .mesh) .pix2tri)) (p .depths) (p .weights)
 
     planned : joinedRuns (flat (take count fs)) (flat (drop count fs)) (length (take count fs ++ [])) ≡ outcome 0 (final (twoRuns sl sr))
     unfolding twoRuns after afterAll joined Accepted

@@ -8,20 +8,20 @@ use borrow.Author.Tests.{eq-eqb, ne-eqb, eqb-true, le-leb}
 use lib.Dec.{eqb}
 use lib.ListN.{length, length-append, take, drop}
 use lib.Seq.{take-add, drop-drop, take-length, drop-cons}
-use Rattle.questions.specs.Questions.{firstNo, answer, sizes, groups, exact, numbers, allBelow, mostCount, empty}
+use Rattle.questions.specs.Questions.{firstNo, answer, sizes, groups, exact, numbers, allBelow, mostCount}
 use Rattle.cells.specs.Cell as cell
 use Rattle.offers.specs.Offer.{pick, offered}
-use Rattle.cells.specs.Cell.{Cell}
-use Rattle.cells.specs.Layer.{Layer, layer, at, pixelwise}
+use Rattle.cells.specs.Cell.{Cell, noHit, numbered}
+use Rattle.cells.specs.Layer.{Layer, at, pixelwise}
 use Rattle.cells.specs.Steps.{Spans}
 use Rattle.layers.specs.Calls.{exactLayer, clearCode, clearing, joinCode, joining}
+use Rattle.cells.specs.Laws.Cells.{same-buffers}
 use Rattle.cells.specs.Laws.Pixels.{pixelwise-same, at-pixelwise, spans-pixelwise}
 use Rattle.meshes.specs.Mesh.{Face, facesOf}
 use Rattle.rules.specs.declared.Facing.{Facing}
 use Rattle.rules.specs.Offers.{Scene, scene, brings, brought}
 use Rattle.rules.specs.Draw.{painted, drawn}
 use Rattle.rules.specs.Calls.{drawCode, facingOf, draws}
-use Rattle.offers.specs.Offers.{numbered}
 use Rattle.offers.specs.Laws.Joins.{won}
 use Rattle.offers.specs.Laws.Faces.{won-runs}
 use Rattle.sequences.specs.Calls.{Store, layerOf, Lent, held, other, contents, returned, lentLayer, whole, Call, clear, draw, join, written, outcomeOf, after, afterAll}
@@ -55,10 +55,8 @@ returned-same s (held i) j = go (eqb i j) refl
 refused-layers : (s : Store) (c : Call) → (outcomeOf s c .code ≡ 0 → ⊥) → (j : ℕ) → layerOf (after s c) j ≡ layerOf s j
 unfolding after
 refused-layers s c no0 j =
-    let e = left-as-lent s c no0 in
-    ap₂ layer
-    (ap (λ (l : Layer). returned (s .maps) (written c .map) (l .pix2tri) j) e ∙ returned-same (s .maps) (written c .map) j)
-    (ap (λ (l : Layer). returned (s .depths) (written c .depth) (l .pix2depth) j) e ∙ returned-same (s .depths) (written c .depth) j)
+    rw (left-as-lent s c no0)
+    (same-buffers (returned-same (s .maps) (written c .map) j) (returned-same (s .depths) (written c .depth) j) (returned-same (s .weights) (written c .weights) j))
 
 -- a call that is lent layer i whole writes it, and no other
 module _ (s : Store) (c : Call) (i : ℕ) (e : written c ≡ whole i) where
@@ -101,17 +99,17 @@ fresh sc fs k = drawn sc fs k (cleared (pixelCount sc))
 
 module _ (sc : Scene) where
   -- pixel by pixel
-  pub fresh-pixels : (fs : List Face) (k : ℕ) → fresh sc fs k ≡ pixelwise (pixelCount sc) (λ p. won empty (brought sc fs k p))
+  pub fresh-pixels : (fs : List Face) (k : ℕ) → fresh sc fs k ≡ pixelwise (pixelCount sc) (λ p. won noHit (brought sc fs k p))
   unfolding fresh drawn painted
   fresh-pixels fs k =
       pixelwise-same (pixelCount sc) _ _
       (λ p h. ap (λ (c : Cell). offered c (brought sc fs k p)) (at-pixelwise (pixelCount sc) (λ q. cell.clear) p h))
 
-  pub fresh-at : (fs : List Face) (k p : ℕ) → p < pixelCount sc → at (fresh sc fs k) p ≡ won empty (brought sc fs k p)
-  fresh-at fs k p h = ap (λ (l : Layer). at l p) (fresh-pixels fs k) ∙ at-pixelwise (pixelCount sc) (λ q. won empty (brought sc fs k q)) p h
+  pub fresh-at : (fs : List Face) (k p : ℕ) → p < pixelCount sc → at (fresh sc fs k) p ≡ won noHit (brought sc fs k p)
+  fresh-at fs k p h = ap (λ (l : Layer). at l p) (fresh-pixels fs k) ∙ at-pixelwise (pixelCount sc) (λ q. won noHit (brought sc fs k q)) p h
 
   pub fresh-spans : (fs : List Face) (k : ℕ) → Spans (fresh sc fs k) (pixelCount sc)
-  fresh-spans fs k = rw (fresh-pixels fs k) (spans-pixelwise (pixelCount sc) (λ p. won empty (brought sc fs k p)))
+  fresh-spans fs k = rw (fresh-pixels fs k) (spans-pixelwise (pixelCount sc) (λ p. won noHit (brought sc fs k p)))
 
   -- two lists one after the other are the two drawings joined
   fresh-join : (xs ys : List Face) (k : ℕ)
@@ -119,14 +117,14 @@ module _ (sc : Scene) where
   unfolding brought
   fresh-join xs ys k =
       pixelwise-same (pixelCount sc) _ _
-      (λ p h. ap₂ pick (fresh-at xs k p h) (fresh-at ys (k + length xs) p h) ∙ sym (won-runs (λ j f. numbered j (brings sc f p)) empty k xs ys))
+      (λ p h. ap₂ pick (fresh-at xs k p h) (fresh-at ys (k + length xs) p h) ∙ sym (won-runs (λ j f. numbered j (brings sc f p)) noHit k xs ys))
       ∙ sym (fresh-pixels (xs ++ ys) k)
 
 -- ---- acceptance
 
 spans-exact : (w h : ℕ) (l : Layer) → Spans l (w * h) → exactLayer w h l ≡ true
 unfolding exact
-spans-exact w h l s = rw (eq-eqb _ _ (s .numbers), eq-eqb _ _ (s .depths))
+spans-exact w h l s = rw (eq-eqb _ _ (s .numbers), eq-eqb _ _ (s .depths), eq-eqb _ _ (s .weights))
 
 -- What every run of an accepted mesh meets.
 pub record Fit (sc : Scene) (rs : List (List Face)) : Type 0 where

@@ -78,10 +78,18 @@ fn main() {
     let matrix = IDENTITY;
     let mut pix2tri = [0u32; 4];
     let mut pix2depth = [0.0f32; 4];
-    layers::clear(&mut pix2tri, &mut pix2depth, WIDTH, HEIGHT);
+    let mut pix2weights = [0.0f32; 12];
+    layers::clear(
+        &mut pix2tri,
+        &mut pix2depth,
+        &mut pix2weights,
+        WIDTH,
+        HEIGHT,
+    );
     drawing::pix2tri_by_rasterization(
         &mut pix2tri,
         &mut pix2depth,
+        &mut pix2weights,
         &tri2vtx,
         &vtx2xyz,
         WIDTH,

@@ -1,7 +1,7 @@
 // Runs the scan of one piece stopped after every number of visits (02, Point 7), on images of five columns and nine rows. A case is a line of twelve words:
 // the piece's number, the depth that every pixel holds before, its three corners in normalised coordinates, and how many stops to run: after 0 visits, 1, ..
-// Each stop begins with the layer as it was before, and writes a line: the number of visits; then of each pixel whose cell is another now, in rising order,
-// the pixel, its map entry and its depth. The package rust/comparison wrote stdin and stdout (examples/stops.rs, whose comment says of which pieces).
+// Each stop begins with the layer as it was before, its weights 0.5, and writes a line: the number of visits; then of each pixel whose cell is another now,
+// in rising order, the pixel, its map entry, its depth and its three weights. The package rust/comparison wrote stdin and stdout (examples/stops.rs, whose comment says of which pieces).
 
 use rules::Facing;
 
@@ -14,6 +14,8 @@ const WIDTH: usize = 5;
 const HEIGHT: usize = 9;
 
 const EMPTY: u32 = 0xffff_ffff;
+
+const WEIGHT: f32 = 0.5;
 
 enum Corner {
     At(f32, f32, f32),
@@ -33,21 +35,48 @@ fn read_corner() -> Corner {
     Corner::At(words::f32_of(x), words::f32_of(y), words::f32_of(z))
 }
 
+// Writes a pixel's depth or weight.
+fn write_float(x: f32) {
+    words::write(words::of_f32(x), SPACE);
+}
+
+// Whether three weights are those from before.
+fn as_before(b0: f32, b1: f32, b2: f32) -> bool {
+    if b0 != WEIGHT {
+        return false;
+    }
+    if b1 != WEIGHT {
+        return false;
+    }
+    b2 == WEIGHT
+}
+
 // Writes a pixel, unless its cell is the one from before.
-fn write_pixel(p: u32, number: u32, depth: f32, before: f32) {
-    let bits = words::of_f32(depth);
-    if number == EMPTY && bits == words::of_f32(before) {
+fn write_pixel(p: u32, number: u32, depth: f32, before: f32, b0: f32, b1: f32, b2: f32) {
+    let same = number == EMPTY && words::of_f32(depth) == words::of_f32(before);
+    if same && as_before(b0, b1, b2) {
         return;
     }
     words::write(p, SPACE);
     words::write(number, SPACE);
-    words::write(bits, SPACE);
+    write_float(depth);
+    write_float(b0);
+    write_float(b1);
+    write_float(b2);
 }
 
-fn write_pixels(pix2tri: &[u32; 45], pix2depth: &[f32; 45], before: f32) {
+fn write_pixels(pix2tri: &[u32; 45], pix2depth: &[f32; 45], pix2weights: &[f32; 135], before: f32) {
     let mut p: usize = 0;
     while p < 45 {
-        write_pixel(p as u32, pix2tri[p], pix2depth[p], before);
+        write_pixel(
+            p as u32,
+            pix2tri[p],
+            pix2depth[p],
+            before,
+            pix2weights[3 * p],
+            pix2weights[3 * p + 1],
+            pix2weights[3 * p + 2],
+        );
         p += 1;
     }
 }
@@ -56,9 +85,11 @@ fn write_pixels(pix2tri: &[u32; 45], pix2depth: &[f32; 45], before: f32) {
 fn stop(number: u32, before: f32, ndc: [[f32; 3]; 3], n: u32) {
     let mut pix2tri = [EMPTY; 45];
     let mut pix2depth = [before; 45];
+    let mut pix2weights = [WEIGHT; 135];
     raster::rasterize_projected_tri(
         &mut pix2tri,
         &mut pix2depth,
+        &mut pix2weights,
         WIDTH,
         HEIGHT,
         number,
@@ -68,7 +99,7 @@ fn stop(number: u32, before: f32, ndc: [[f32; 3]; 3], n: u32) {
         Facing::All,
     );
     words::write(n, SPACE);
-    write_pixels(&pix2tri, &pix2depth, before);
+    write_pixels(&pix2tri, &pix2depth, &pix2weights, before);
     io::write_all(STDOUT, b"\n");
 }
 

@@ -1,9 +1,10 @@
 -- Demand 3 as one statement: `demand3`, at the end. This is all that it leans on, beside numbers, lists and IEEE floats:
 --   Cut, Planned, Case          an accepted mesh, thinned and cut into runs, and a sequence of calls that keeps to the plan (sequences Case)
---   Store, Call, afterAll       layers that share no memory, calls on them, and what is left in the end (sequences Calls)
+--   Store, Call, afterAll       layers of three buffers that share no memory, calls on them, and what is left in the end (sequences Calls)
 --   Keeps, Accepted             the plan, and that its own calls are accepted (sequences Plan)
 --   Idle                        the faces taken out hold no pixel (sequences Thinned)
 --   full, final, Pictures       the whole drawing, the layer that remains, and what is said of the two (sequences Case)
+--   Layer, at, Spans, noHit     a layer's map, depths and weights, its cells, its lengths, and what a clear cell has beside its depth (cells Layer, Steps, Cell)
 --   flat, joined, cleared       a list of faces as a slice, runs one after the other, a cleared layer (sequences Plan, Whole)
 --   keptFrom, renumber          the faces kept, and their new numbers (offers Thinning)
 --   offers, Holds, Shows        the offers at a pixel and what it shows, defined without drawing (rules Offers, offers Offers)

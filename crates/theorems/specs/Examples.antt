@@ -1,5 +1,5 @@
 -- The marked examples of 01: `Marked` has a field for each marked line, in 01's order, and `marked` is its value. Each is proved by computing the definitions
--- that the contracts cite.
+-- that the contracts cite. A layer is given with its weights (02, Point 9): `inT` has those of T(z) at the four pixels (sequences Example).
 pub mod Values
 pub mod Edges
 pub mod Floats
@@ -8,25 +8,26 @@ pub mod Visits
 pub mod Facing
 use mathlib.Core.Path.{_≡_, refl}
 use mathlib.Core.List.{[], _∷_}
+use lib.ListN.{drop}
 use lib.Ieee.{nan, binary32, ofBits}
 use Rattle.questions.specs.Questions.{empty, outcome}
 use Rattle.offers.specs.Offer.{lowest}
 use Rattle.cells.specs.Layer.{layer}
 use Rattle.roots.specs.Root.{root}
-use Rattle.sequences.specs.Example.{zero, one, minusOne, quarter, corners, four, blank, drawing, faced}
+use Rattle.sequences.specs.Example.{zero, one, minusOne, three, quarter, corners, four, twelve, blank, inT, drawing, faced}
 use Rattle.theorems.specs.Examples.Values.{word, showing}
 use Rattle.theorems.specs.Examples.Edges.{typedOf, typed, typedAs}
 
 pub record Marked : Type 0 where
   -- T(0.25): four pixels, number 0, depth 0.25.
-  pub one-face : drawing blank (0 ∷ 1 ∷ 2 ∷ []) (corners quarter) zero one ≡ outcome 0 (layer (four 0) (four quarter))
+  pub one-face : drawing blank (0 ∷ 1 ∷ 2 ∷ []) (corners quarter) zero one ≡ outcome 0 (layer (four 0) (four quarter) inT)
   -- T(0.25) twice: number 0.
-  pub twice : drawing blank (0 ∷ 1 ∷ 2 ∷ 0 ∷ 1 ∷ 2 ∷ []) (corners quarter) zero one ≡ outcome 0 (layer (four 0) (four quarter))
+  pub twice : drawing blank (0 ∷ 1 ∷ 2 ∷ 0 ∷ 1 ∷ 2 ∷ []) (corners quarter) zero one ≡ outcome 0 (layer (four 0) (four quarter) inT)
   -- No faces: still clear.
   pub no-faces : drawing blank [] (corners quarter) zero one ≡ outcome 0 blank
-  -- Depth NaN at pixel 0: kept, with its number.
-  pub nan-kept : drawing (layer (7 ∷ empty ∷ empty ∷ empty ∷ []) (nan ∷ lowest ∷ lowest ∷ lowest ∷ [])) (0 ∷ 1 ∷ 2 ∷ []) (corners quarter) zero one
-      ≡ outcome 0 (layer (7 ∷ 0 ∷ 0 ∷ 0 ∷ []) (nan ∷ quarter ∷ quarter ∷ quarter ∷ []))
+  -- Depth NaN at pixel 0: kept, with its number; and with its weights, which are nobody else's.
+  pub nan-kept : drawing (layer (7 ∷ empty ∷ empty ∷ empty ∷ []) (nan ∷ lowest ∷ lowest ∷ lowest ∷ []) (minusOne ∷ three ∷ one ∷ drop 3 (twelve zero))) (0 ∷ 1 ∷ 2 ∷ []) (corners quarter) zero one
+      ≡ outcome 0 (layer (7 ∷ 0 ∷ 0 ∷ 0 ∷ []) (nan ∷ quarter ∷ quarter ∷ quarter ∷ []) (minusOne ∷ three ∷ one ∷ drop 3 inT))
   -- m[11] = −1, m[15] = 0, a vertex with z = 1: nothing drawn.
   pub behind-the-camera : drawing blank (0 ∷ 1 ∷ 2 ∷ []) (corners one) minusOne zero ≡ outcome 0 blank
   -- T(0.25), vertex values 0, 8, 16: pixel 0 is 7; the others are 9, 3 and 5.

@@ -1,4 +1,4 @@
--- The theorems at the rational numbers: the example of 01 whose pixel 0 is 7, exactly, and its gradients.
+-- The theorems at the rational numbers: the example of 01 whose pixel 0 is 7, exactly, and its gradients; and the same pixel's weights and depth as drawn.
 use Prim.Native.Nat.{ℕ, zero, suc, _<_}
 use mathlib.Core.Path.{_≡_, refl, sym, _∙_, ap, subst}
 use mathlib.Core.Option.{Option, none, some, Option·some-injective, Option·some-ne-none}
@@ -6,8 +6,8 @@ use mathlib.Core.List.{List, [], _∷_}
 use lib.Dec.{lit≤}
 use lib.ListN.{getD, replicate}
 use lib.IntN.{pos, negsuc}
-use Rattle.geometry.specs.Vector.{Vec3, vec3, Triangle, triangle}
-use Rattle.geometry.specs.Formula.{sumOf, blend}
+use Rattle.geometry.specs.Vector.{Vec2, vec2, Vec3, vec3, Weights, weights, Triangle, triangle}
+use Rattle.geometry.specs.Formula.{sumOf, cross2, areas, total, overTotal, blend}
 use Rattle.rays.specs.Space.{Ray, ray, minus3, dot3, cross3, scaled3}
 use Rattle.rays.specs.Plane.{normal}
 use Rattle.rays_bwd.specs.Backward.{framed, frameOf, meetsU, meetsV, weighted, gradientOn, gradient, shares, shared, backwardOn, planeBackward}
@@ -24,6 +24,7 @@ use Rattle.truth.specs.Image.{Scene, summed, imageXyz, imageVal, imageLo
 use Rattle.truth.specs.Buffers.{against}
 use Rattle.truth.specs.Pass.{movingScene, Good, Ready, pass-true}
 use Rattle.truth.specs.Meeting.{D, n·n, weights-agree}
+use Rattle.truth.specs.Weights.{areaSum, weightsIn, weights-depth}
 
 -- n and -(n + 1)
 abbrev whole : ℕ → ℚ
@@ -132,3 +133,38 @@ pub pass-is-true : (mx mv : ℕ → ℚ)
     (against rationals (summed rationals (whole 0) (zeros 3) (imageVal rationals scene 2)) mv)
     ≡ rationals .add (rationals .add (against rationals (zeros 9) mx) (against rationals (zeros 3) mv)) (imageLoss (duals rationals) (movingScene rationals scene mx mv) 2 .eps)
 pass-is-true mx mv = pass-true rationals rational-laws scene mx mv (whole 0) (zeros 9) (zeros 3) 2 ready
+
+-- ---- drawing: T in the pixels of 2 × 2, its corners at the depths 0, 8 and 16, and the centre of pixel 0
+
+abbrev corner0 : Vec2 ℚ
+corner0 = vec2 (whole 0) (whole 2)
+
+abbrev corner1 : Vec2 ℚ
+corner1 = vec2 (whole 4) (whole 2)
+
+abbrev corner2 : Vec2 ℚ
+corner2 = vec2 (whole 0) (less 1)
+
+abbrev centre : Vec2 ℚ
+centre = vec2 (over (pos 1) (pos 2) tt) (over (pos 1) (pos 2) tt)
+
+s-is : areaSum rationals centre corner0 corner1 corner2 ≡ less 15
+unfolding total areas cross2
+s-is = alike _ _ refl
+
+weighs : Invertible rationals (areaSum rationals centre corner0 corner1 corner2)
+weighs = divides-by (negsuc 15) (pos 1) tt s-is tt
+
+sameW : {a b : Weights ℚ} → a .b0 ≡ b .b0 → a .b1 ≡ b .b1 → a .b2 ≡ b .b2 → a ≡ b
+sameW p q r = λ i. weights (p i) (q i) (r i)
+
+pub weights-are : weightsIn rationals centre corner0 corner1 corner2 ≡ weights (over (pos 1) (pos 2) tt) (over (pos 1) (pos 8) tt) (over (pos 3) (pos 8) tt)
+unfolding overTotal total areas cross2
+weights-are = sameW (alike _ _ refl) (alike _ _ refl) (alike _ _ refl)
+
+-- the corners lie in the plane z = 2x − 4y + 8, so the depth is its height at the centre
+pub depth-is-7 : blend rationals (weightsIn rationals centre corner0 corner1 corner2) (whole 0) (whole 8) (whole 16) ≡ whole 7
+depth-is-7 =
+    weights-depth rationals rational-laws centre corner0 corner1 corner2 weighs (whole 2) (less 3) (whole 8) (whole 0) (whole 8) (whole 16)
+    (alike _ _ refl) (alike _ _ refl) (alike _ _ refl)
+    ∙ alike _ _ refl

@@ -8,7 +8,8 @@
 --   Loss        `loss-true`                   what a pixel adds to vertices and values is the derivative of its part of the loss
 --   Pass        `pass-true`                   so of every pixel, into lent buffers
 --   Projection  `pull-true`, `edge-true`      `jacobian_transform`, and what an edge gives the corners of a face
---   Ties        at f32 these formulas are what `interpolate` writes and what `interpolate_bwd` and `bwd` add
+--   Weights     `weights-sum`, `weights-place`, `weights-depth`   the corner weights of drawing: they sum to 1, place the pixel and give the depth
+--   Ties        at f32 these formulas are what `interpolate` writes, what `interpolate_bwd` and `bwd` add, and the weights of drawing
 --   Rationals   the laws hold of the rational numbers; Examples computes one
 --
 -- What is not said:
@@ -32,6 +33,7 @@ pub mod Secant
 pub mod Loss
 pub mod Pass
 pub mod Projection
+pub mod Weights
 pub mod Ties
 -- an exact arithmetic with division
 pub mod Integers

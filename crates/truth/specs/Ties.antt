@@ -1,13 +1,16 @@
--- At f32 the formulas of this crate are those of the product's definitions: what `interpolate` writes, and what `interpolate_bwd` and `bwd` add.
+-- At f32 the formulas of this crate are those of the product's definitions: what `interpolate` writes, what `interpolate_bwd` and `bwd` add, and the weights
+-- of drawing.
 use Prim.Native.Nat.{ℕ, _+_, _*_}
 use mathlib.Core.Path.{_≡_, refl, sym, _∙_, ap, ap₂}
+use mathlib.Core.Bool.{Bool, true, false, not, _&&_, cond}
 use mathlib.Core.Option.{Option, none, some}
 use mathlib.Core.List.{List, [], _∷_, _++_, map, map-append, flatMap}
-use lib.Ieee.{Float, nan}
+use lib.Ieee.{Float, nan, eq}
+use lib.Ieee.Scale.{finite}
 use lib.ListN.{getD}
 use Rattle.geometry.specs.Arith.{floats}
-use Rattle.geometry.specs.Vector.{Vec3, Weights, Triangle}
-use Rattle.geometry.specs.Leaf.{entries}
+use Rattle.geometry.specs.Vector.{Vec2, Vec3, Weights, weighedBy, Triangle}
+use Rattle.geometry.specs.Leaf.{entries, weighed, weighedAll, withSum, weighedWithSum, cornerWeights}
 use Rattle.rays.specs.Space.{Ray, scaled3}
 use Rattle.rays_bwd.specs.Backward.{shares}
 use Rattle.meshes.specs.Mesh as Mesh
@@ -27,6 +30,7 @@ use Rattle.tris.specs.Tri.{pointOn}
 use Rattle.scattering.specs.Scattering.{toVertex, toFace, toPoint, spread}
 use Rattle.truth.specs.Pixel.{valueAt, incoming, backward, gradientsAt, toValue}
 use Rattle.truth.specs.Projection.{pulled}
+use Rattle.truth.specs.Weights.{areaSum, weightsIn}
 use Rattle.truth.specs.Image.{Scene, Addition, cornersAt, valuesAt, toXyz, toVal, pixelXyz, pixelVal, xyzAt, valAt, imageXyz, imageVal, added, summed}
 
 -- what both passes read
@@ -102,3 +106,19 @@ pub edge-at-floats : (m : List Float) (x : Triangle (Vec3 Float)) (f : Face) (g 
     spread m x f g (some b) ≡ toPlace (f .v0) (to .p0) ++ (toPlace (f .v1) (to .p1) ++ toPlace (f .v2) (to .p2)))
 unfolding spread toFace toVertex toPoint pointOn pulled shares scaled3
 edge-at-floats m x f g b = refl
+
+-- ---- drawing
+
+with-sum : (there : Bool) (b : Weights Float) (s : Float) → withSum s (cond there (some b) none) ≡ cond there (some (weighedBy b s)) none
+unfolding withSum
+with-sum true b s = refl
+with-sum false b s = refl
+
+-- the weights at q, where s is finite and not 0: `kept` of `rules` offers `blend` of these and the corners' depths, and these
+pub weights-at-floats : (q p0 p1 p2 : Vec2 Float)
+    → (let s = areaSum floats q p0 p1 p2 in
+    cornerWeights q p0 p1 p2 ≡ cond (finite s && not (eq s (floats .zero))) (some (weighedBy (weightsIn floats q p0 p1 p2) s)) none)
+unfolding cornerWeights weighedWithSum weighedAll weighed
+weights-at-floats q p0 p1 p2 =
+    let s = areaSum floats q p0 p1 p2 in
+    with-sum (finite s && not (eq s (floats .zero))) (weightsIn floats q p0 p1 p2) s

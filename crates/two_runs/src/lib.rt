@@ -14,6 +14,7 @@ ghost use Rattle.sequences.specs.Whole.{cleared};
 fn draw_run(
     pix2tri: &mut [u32],
     pix2depth: &mut [f32],
+    pix2weights: &mut [f32],
     tri2vtx: &[u32],
     vtx2xyz: &[f32],
     img_w: usize,
@@ -22,13 +23,14 @@ fn draw_run(
     first: u32,
     facing: u32,
 )
-    ensures { λ r. ⌜ layer (now (pix2tri .exit)) (now (pix2depth .exit))
-        ≡ draws (clearing (layer (now (pix2tri .entry)) (now (pix2depth .entry))) «img_w» «img_h» .left) (now (tri2vtx .entry)) (now (vtx2xyz .entry)) «img_w» «img_h» (now (m .entry)) first facing .left ⌝ }
+    ensures { λ r. ⌜ layer (now (pix2tri .exit)) (now (pix2depth .exit)) (now (pix2weights .exit))
+        ≡ draws (clearing (layer (now (pix2tri .entry)) (now (pix2depth .entry)) (now (pix2weights .entry))) «img_w» «img_h» .left) (now (tri2vtx .entry)) (now (vtx2xyz .entry)) «img_w» «img_h» (now (m .entry)) first facing .left ⌝ }
 {
-    layers::clear(pix2tri, pix2depth, img_w, img_h);
+    layers::clear(pix2tri, pix2depth, pix2weights, img_w, img_h);
     drawing::pix2tri_by_rasterization(
         pix2tri,
         pix2depth,
+        pix2weights,
         tri2vtx,
         vtx2xyz,
         img_w,
@@ -44,8 +46,10 @@ fn draw_run(
 pub fn draw_in_two_runs(
     left_pix2tri: &mut [u32],
     left_pix2depth: &mut [f32],
+    left_pix2weights: &mut [f32],
     right_pix2tri: &mut [u32],
     right_pix2depth: &mut [f32],
+    right_pix2weights: &mut [f32],
     tri2vtx: &[u32],
     vtx2xyz: &[f32],
     img_w: usize,
@@ -56,15 +60,16 @@ pub fn draw_in_two_runs(
 ) -> u32
     requires { ⌜ drawCode (cleared («img_w» * «img_h»)) (now tri2vtx) (now vtx2xyz) «img_w» «img_h» 0 ≡ 0 ⌝ }
     requires { ⌜ count ≤ length (now tri2vtx) / 3 ⌝ }
-    requires { ⌜ Spans (layer (now «left_pix2tri») (now «left_pix2depth»)) («img_w» * «img_h») ⌝ }
-    requires { ⌜ Spans (layer (now «right_pix2tri») (now «right_pix2depth»)) («img_w» * «img_h») ⌝ }
-    ensures { λ r. ⌜ outcome r (layer (now («left_pix2tri» .exit)) (now («left_pix2depth» .exit)))
+    requires { ⌜ Spans (layer (now «left_pix2tri») (now «left_pix2depth») (now «left_pix2weights»)) («img_w» * «img_h») ⌝ }
+    requires { ⌜ Spans (layer (now «right_pix2tri») (now «right_pix2depth») (now «right_pix2weights»)) («img_w» * «img_h») ⌝ }
+    ensures { λ r. ⌜ outcome r (layer (now («left_pix2tri» .exit)) (now («left_pix2depth» .exit)) (now («left_pix2weights» .exit)))
         ≡ draws (cleared («img_w» * «img_h»)) (now (tri2vtx .entry)) (now (vtx2xyz .entry)) «img_w» «img_h» (now («transform_world2ndc» .entry)) 0 facing ⌝ }
 {
     let cut = 3 * count;
     draw_run(
         left_pix2tri,
         left_pix2depth,
+        left_pix2weights,
         &tri2vtx[..cut],
         vtx2xyz,
         img_w,
@@ -76,6 +81,7 @@ pub fn draw_in_two_runs(
     draw_run(
         right_pix2tri,
         right_pix2depth,
+        right_pix2weights,
         &tri2vtx[cut..],
         vtx2xyz,
         img_w,
@@ -87,8 +93,10 @@ pub fn draw_in_two_runs(
     layers::join(
         left_pix2tri,
         left_pix2depth,
+        left_pix2weights,
         right_pix2tri,
         right_pix2depth,
+        right_pix2weights,
         img_w,
         img_h,
     )

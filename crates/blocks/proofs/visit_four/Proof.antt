@@ -11,25 +11,29 @@ use Rattle.blocks.proofs.visit_four.Tie as tie
 
 returns : tie.Need-returns
 returns c =
-    let f = c .before .before .before .before .before .before .before .before .before .before .before .before .before .before .before .before .before .before in
+    let visited = c .before .before .before .before .before .before in
+    let masked = visited .before .before .before .before in
+    let worked = masked .before .before .before .before in
+    let ended = worked .before .before .before .before in
+    let f = ended .before .before .before .before in
     let a = f .args in
     let room = f .pre .1 .1 .0 .0 in
     let near = f .pre .0 .h-most in
     let q = f .pre .1 .1 .1 .1 .1 in
-    four-done (within (a .side)) (screenOf (a .s)) (a .number) (a .w) (a .h) (a .ix) (a .y1) (f .pre .0) (f .pre .1 .1 .1 .0 .1) (f .pre .1 .1 .1 .0 .0) (omega (arith, f .pre .1 .1 .0 .1)) (f .pre .1 .1 .1 .1 .0) (c .before .before .before .before .before .before .before .before .before .before .before .before .before .before .before .centre .ensures)
-    (layer (a .pix2tri .now) (a .pix2depth .now)) (a .iy) (f .pre .1 .0) room (f .pre .1 .1 .0 .1) q
+    four-done (within (a .side)) (screenOf (a .s)) (a .number) (a .w) (a .h) (a .ix) (a .y1) (f .pre .0) (f .pre .1 .1 .1 .0 .1) (f .pre .1 .1 .1 .0 .0) (omega (arith, f .pre .1 .1 .0 .1)) (f .pre .1 .1 .1 .1 .0) (ended .centre .ensures)
+    (layer (a .pix2tri .now) (a .pix2depth .now) (a .pix2weights .now)) (a .iy) (f .pre .1 .0) room (f .pre .1 .1 .0 .1) q
     (on-1 (a .qy) (a .iy) q (omega arith))
     (on-2 (a .qy) (a .iy) q (omega arith))
     (on-3 (a .qy) (a .iy) q (omega arith))
-    (c .before .before .before .before .before .before .before .before .before .before .before .before .before .before .lane .ensures)
-    (c .before .before .before .before .before .before .before .before .before .before .before .before .before .lane2 .ensures)
-    (c .before .before .before .before .before .before .before .before .before .before .before .before .lane3 .ensures)
-    (c .before .before .before .before .before .before .before .before .before .before .before .lane4 .ensures)
-    (c .before .before .before .before .before .before .before .before .before .before .up-to .ensures)
-    (c .before .before .before .before .before .before .before .before .before .up-to2 .ensures)
-    (c .before .before .before .before .before .before .before .before .up-to3 .ensures)
-    (c .before .before .before .before .before .before .before .up-to4 .ensures)
-    (c .before .before .before .before .visit-greater .ensures)
+    (worked .before .before .before .lane .ensures)
+    (worked .before .before .lane2 .ensures)
+    (worked .before .lane3 .ensures)
+    (worked .lane4 .ensures)
+    (masked .before .before .before .up-to .ensures)
+    (masked .before .before .up-to2 .ensures)
+    (masked .before .up-to3 .ensures)
+    (masked .up-to4 .ensures)
+    (visited .visit-greater .ensures)
 
 pub visit-four-spec : {M : Type 1} → statement M
 visit-four-spec =
@@ -37,4 +41,4 @@ visit-four-spec =
     (tie.spec
     (λ c. search needs) (λ c κs. search needs) (λ c κs. search needs) (λ c κs. search needs) (λ c κs. search needs) (λ c κs. search needs)
     (λ c κs. search needs) (λ c κs. search needs) (λ c κs. search needs) (λ c κs. search needs) (λ c κs. search needs) (λ c. search needs)
-    (λ c. search needs) returns)
+    (λ c. search needs) (λ c. search needs) returns)

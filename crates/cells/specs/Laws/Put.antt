@@ -1,23 +1,29 @@
--- One pixel of a layer to which a depth is brought: what is stored is what a step leaves.
+-- One pixel of a layer to which a cell is brought: what is stored is what a step leaves.
 use Prim.Native.Nat.{ℕ}
 use mathlib.Core.Path.{_≡_, refl, sym}
 use mathlib.Core.Bool.{true, false, false≢true}
 use lib.Ieee.{Float, nan, inf, fin, lt}
 use lib.Seq.{set-getD}
 use Rattle.offers.specs.Offer.{lowest, exceeds, pick}
-use Rattle.cells.specs.Cell.{cell}
+use Rattle.cells.specs.Cell.{Cell}
 use Rattle.cells.specs.Layer.{Layer, at}
 use Rattle.cells.specs.Steps.{written, stepped}
+use Rattle.cells.specs.Laws.Weights.{weights-kept}
+use Rattle.cells.specs.Laws.Cells.{same-buffers}
 
 -- ---- what a test leaves written
 
-pub kept-step : (l : Layer) (p k : ℕ) (z : Float) → lt (at l p .depth) z ≡ false → l ≡ stepped l p k z
-unfolding stepped pick exceeds
-kept-step l p k z e = rw (e, set-getD (l .pix2tri) p 0, set-getD (l .pix2depth) p nan)
+-- the cell that stands there
+pub same-written : (l : Layer) (p : ℕ) → l ≡ written l p (at l p)
+same-written l p = sym (same-buffers (set-getD (l .pix2tri) p 0) (set-getD (l .pix2depth) p nan) (weights-kept (l .pix2weights) p))
 
-pub taken-step : (l : Layer) (p k : ℕ) (z : Float) → lt (at l p .depth) z ≡ true → written l p (cell z k) ≡ stepped l p k z
+pub kept-step : (l : Layer) (p : ℕ) (c : Cell) → lt (at l p .depth) (c .depth) ≡ false → l ≡ stepped l p c
 unfolding stepped pick exceeds
-taken-step l p k z e = rw e
+kept-step l p c e = rw e (same-written l p)
+
+pub taken-step : (l : Layer) (p : ℕ) (c : Cell) → lt (at l p .depth) (c .depth) ≡ true → written l p c ≡ stepped l p c
+unfolding stepped pick exceeds
+taken-step l p c e = rw e
 
 -- ---- −infinity and NaN are never greater
 

@@ -14,7 +14,8 @@ use Rattle.layers.specs.Calls.{exactLayer, clearCode, joinCode}
 pub exact-spans : (w h : ℕ) (l : Layer) → exactLayer w h l ≡ true → Spans l (w * h)
 exact-spans w h l e =
     let parts = both (exact (w * h) (length (l .pix2tri))) _ e in
-    record { numbers = exactly _ _ (parts .0); depths = exactly _ _ (parts .1) }
+    let others = both (exact (w * h) (length (l .pix2depth))) _ (parts .1) in
+    record { numbers = exactly _ _ (parts .0); depths = exactly _ _ (others .0); weights = exactly _ _ (others .1) }
 
 module _ (l : Layer) (w h : ℕ) where
   pub clear-accepted : clearCode l w h ≡ 0 → Sized 1 w h × Spans l (w * h)

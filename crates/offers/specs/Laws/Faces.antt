@@ -8,12 +8,12 @@ use native.Mathlib.Nat.{add-zero}
 use native.Mathlib.Omega.{arith}
 use lib.Dec.{T}
 use lib.ListN.{length}
-use Rattle.offers.specs.Offer.{Offer, pick}
+use Rattle.offers.specs.Offer.{Offer, renamed, pick}
 use Rattle.offers.specs.Offers.{brought, offersOf, Greatest}
 use Rattle.offers.specs.Thinning.{keptFrom, keptBefore}
 use Rattle.offers.specs.Laws.Joins.{won, won-append}
 use Rattle.offers.specs.Laws.Removal.{keptOffers, all-kept, none-kept, kept-append, won-kept}
-use Rattle.offers.specs.Laws.Renaming.{renamed, won-renamed}
+use Rattle.offers.specs.Laws.Renaming.{won-renamed}
 
 module _ {F P : Type 0} (bring : ℕ → F → List (Offer P)) where
   brought-append : (k : ℕ) (xs ys : List F) → brought bring k (xs ++ ys) ≡ brought bring k xs ++ brought bring (k + length xs) ys

@@ -1,14 +1,9 @@
 -- Renaming the payloads of what is brought renames the pixel's.
-use mathlib.Core.Path.{_≡_, refl, ap, sym, _∙_}
+use mathlib.Core.Path.{_≡_, refl, ap, ap₂, sym, _∙_}
 use mathlib.Core.Bool.{Bool, true, false, cond}
 use mathlib.Core.List.{List, [], _∷_, map, List·Memᴰ, List·Memᴰ·head, List·Memᴰ·tail, List·Memᴰ·not-nil}
-use lib.Ieee.{Float}
-use Rattle.offers.specs.Offer.{Offer, offer, lowest, exceeds, pick, offered}
-use Rattle.offers.specs.Offers.{numbered}
+use Rattle.offers.specs.Offer.{Offer, offer, renamed, lowest, exceeds, pick, offered}
 use Rattle.offers.specs.Laws.Joins.{won}
-
-unfoldable pub renamed : {P Q : Type 0} → (P → Q) → Offer P → Offer Q
-renamed r c = offer (c .depth) (r (c .payload))
 
 module _ {P Q : Type 0} (r : P → Q) where
   pick-renamed : (a b : Offer P) → pick (renamed r a) (renamed r b) ≡ renamed r (pick a b)
@@ -32,15 +27,17 @@ module _ {P Q : Type 0} (r : P → Q) where
   pub won-renamed : (none : P) (none' : Q) → r none ≡ none' → (cs : List (Offer P)) → won none' (map (renamed r) cs) ≡ renamed r (won none cs)
   won-renamed none none' e cs = ap (λ (k : Offer Q). offered k (map (renamed r) cs)) (clear-renamed none none' e) ∙ offered-renamed (offer lowest none) cs
 
--- ---- depths with one payload
+-- ---- what a list of renamed offers holds
 
-pub numbered-payload : {P : Type 0} (k : P) (ds : List Float) (c : Offer P) → List·Memᴰ c (numbered k ds) → c .payload ≡ k
-unfolding numbered
-numbered-payload k [] c m = absurd (List·Memᴰ·not-nil m)
-numbered-payload {P} k (d ∷ ds) c (List·Memᴰ·head e) = ap (λ (x : Offer P). x .payload) e
-numbered-payload k (d ∷ ds) c (List·Memᴰ·tail m) = numbered-payload k ds c m
+-- what r makes of every payload, each renamed one has
+pub renamed-has : {P Q X : Type 0} (r : P → Q) (f : Q → X) (x : X) → ((a : P) → f (r a) ≡ x) → (cs : List (Offer P)) (c : Offer Q) → List·Memᴰ c (map (renamed r) cs) → f (c .payload) ≡ x
+unfolding renamed
+renamed-has r f x h [] c m = absurd (List·Memᴰ·not-nil m)
+renamed-has {P} {Q} r f x h (o ∷ cs) c (List·Memᴰ·head e) = ap (λ (k : Offer Q). f (k .payload)) e ∙ h (o .payload)
+renamed-has r f x h (o ∷ cs) c (List·Memᴰ·tail m) = renamed-has r f x h cs c m
 
-pub numbered-renamed : {P Q : Type 0} (r : P → Q) (k : P) (ds : List Float) → map (renamed r) (numbered k ds) ≡ numbered (r k) ds
-unfolding numbered renamed
-numbered-renamed r k [] = refl
-numbered-renamed {P} {Q} r k (d ∷ ds) = ap (λ (l : List (Offer Q)). offer d (r k) ∷ l) (numbered-renamed r k ds)
+-- renamed twice
+pub renamed-twice : {P Q X : Type 0} (r : P → Q) (s : Q → X) (t : P → X) → ((a : P) → s (r a) ≡ t a) → (cs : List (Offer P)) → map (renamed s) (map (renamed r) cs) ≡ map (renamed t) cs
+unfolding renamed
+renamed-twice r s t h [] = refl
+renamed-twice {P} {Q} {X} r s t h (o ∷ cs) = ap₂ (λ (x : X) (l : List (Offer X)). offer (o .depth) x ∷ l) (h (o .payload)) (renamed-twice r s t h cs)

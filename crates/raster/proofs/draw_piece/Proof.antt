@@ -12,11 +12,11 @@ use Rattle.raster.proofs.draw_piece.Tie as tie
 
 returns : tie.Need-returns
 returns c =
-    let f = c .before .before .before .before .before .before .before .before .before in
+    let f = c .before .before .before .before .before .before .before .before .before .before .before .before .before in
     let a = f .args in
     let enough = area-below (f .pre .0 .w-most) (f .pre .0 .h-most) in
-    c .before .before .before .before .rasterize-projected-tri .ensures
-    ∙ stopped-all _ (a .facing) (a .w) (a .h) (pieceOf (a .turned) (a .ndc)) (a .number) (layer (a .pix2tri .now) (a .pix2depth .now)) (f .pre .1) (omega (arith, piece-most (a .w) (a .h) (pieceOf (a .turned) (a .ndc)), enough))
+    c .before .before .before .before .before .before .rasterize-projected-tri .ensures
+    ∙ stopped-all _ (a .facing) (a .w) (a .h) (pieceOf (a .turned) (a .ndc)) (a .number) (layer (a .pix2tri .now) (a .pix2depth .now) (a .pix2weights .now)) (f .pre .1) (omega (arith, piece-most (a .w) (a .h) (pieceOf (a .turned) (a .ndc)), enough))
 
 pub draw-piece-spec : {M : Type 1} → statement M
-draw-piece-spec = tie.close (tie.spec (λ c κs. search needs) (λ c. search needs) (λ c. search needs) returns)
+draw-piece-spec = tie.close (tie.spec (λ c κs. search needs) (λ c. search needs) (λ c. search needs) (λ c. search needs) returns)

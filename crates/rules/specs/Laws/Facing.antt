@@ -15,6 +15,7 @@ use Rattle.geometry.specs.Arith.{floats}
 use Rattle.geometry.specs.Vector.{Vec2, Vec3, flat, Weights, Weighed, Triangle}
 use Rattle.geometry.specs.Formula.{areas, total, overTotal}
 use Rattle.geometry.specs.Leaf.{weighed, weighedAll, withSum, weighedWithSum, cornerWeights}
+use Rattle.cells.specs.Cell.{Candidate}
 use Rattle.cells.specs.Layer.{Layer}
 use Rattle.meshes.specs.Mesh.{Face}
 use Rattle.rules.specs.declared.Facing.the-variants.{All, Front}
@@ -103,7 +104,7 @@ front-and-left-out turned s ix iy = go (scans s ix iy)
     depths : (q : Vec2 Float) → depthAt (counts All turned) s q ≡ depthAt (counts Front turned) s q ++ depthAt (counts Front (not turned)) s q
     depths q =
         either (counts Front turned) s (cornerWeights q (flat (s .p0)) (flat (s .p1)) (flat (s .p2)))
-        ∙ ap (λ (ds : List Float). depthAt (counts Front turned) s q ++ ds) (counted-same (λ x. not (counts Front turned x)) (counts Front (not turned)) s q (λ x w. sym (left-out turned x w)))
+        ∙ ap (λ (ds : List Candidate). depthAt (counts Front turned) s q ++ ds) (counted-same (λ x. not (counts Front turned x)) (counts Front (not turned)) s q (λ x w. sym (left-out turned x w)))
 
     go : (b : Bool) → cond b (depthAt (counts All turned) s (centreAt ix iy)) [] ≡ cond b (depthAt (counts Front turned) s (centreAt ix iy)) [] ++ cond b (depthAt (counts Front (not turned)) s (centreAt ix iy)) []
     go true = depths (centreAt ix iy)
@@ -112,19 +113,19 @@ front-and-left-out turned s ix iy = go (scans s ix iy)
 -- ---- all faces
 
 -- what a piece brings a pixel without a facing: its depth, by the weights alone
-unfoldable pub weightsDepth : Triangle (Vec3 Float) → Option (Weights Float) → List Float
+unfoldable pub weightsDepth : Triangle (Vec3 Float) → Option (Weights Float) → List Candidate
 weightsDepth s none = []
 weightsDepth s (some b) = kept s b
 
-unfoldable pub unfaced : Triangle (Vec3 Float) → ℕ → ℕ → List Float
+unfoldable pub unfaced : Triangle (Vec3 Float) → ℕ → ℕ → List Candidate
 unfaced s ix iy = cond (scans s ix iy) (weightsDepth s (weighedAll (areas floats (centreAt ix iy) (flat (s .p0)) (flat (s .p1)) (flat (s .p2))))) []
 
-unfoldable pub pieceUnfaced : Scene → Piece → ℕ → List Float
+unfoldable pub pieceUnfaced : Scene → Piece → ℕ → List Candidate
 pieceUnfaced sc t p = unfaced (screened (sc .width) (sc .height) (t .corners)) (p % sc .width) (p / sc .width)
 
 all-counted : (turned : Bool) (s : Triangle (Vec3 Float)) (ix iy : ℕ) → candidate (counts All turned) s ix iy ≡ unfaced s ix iy
 unfolding candidate unfaced depthAt cornerWeights weighedWithSum withSum weighedDepth weightsDepth counts
-all-counted turned s ix iy = ap (λ (ds : List Float). cond (scans s ix iy) ds []) (go _ (weighedAll _))
+all-counted turned s ix iy = ap (λ (ds : List Candidate). cond (scans s ix iy) ds []) (go _ (weighedAll _))
   where
     go : (t : Float) (o : Option (Weights Float)) → weighedDepth (counts All turned) s (withSum t o) ≡ weightsDepth s o
     go t none = refl

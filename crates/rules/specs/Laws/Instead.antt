@@ -2,10 +2,8 @@
 use Prim.Native.Nat.{ℕ, suc, _*_}
 use mathlib.Core.Path.{_≡_, refl, ap₂}
 use mathlib.Core.List.{List, [], _∷_, _++_, flatMap}
-use lib.Ieee.{Float}
 use Rattle.offers.specs.Offers as any
-use Rattle.offers.specs.Offers.{numbered}
-use Rattle.cells.specs.Cell.{Cell}
+use Rattle.cells.specs.Cell.{Candidate, Cell, numbered}
 use Rattle.cells.specs.Layer.{Layer}
 use Rattle.meshes.specs.Mesh.{Face}
 use Rattle.rules.specs.Piece.{Piece}
@@ -13,7 +11,7 @@ use Rattle.rules.specs.Offers.{Scene, facePieces, pieceBrings, piecesBri
 use Rattle.rules.specs.Draw.{painted, drawn}
 use Rattle.rules.specs.Laws.Paint.{painted-same}
 
-module _ (one : Piece → ℕ → List Float) (sc : Scene) where
+module _ (one : Piece → ℕ → List Candidate) (sc : Scene) where
   -- what the faces of a list bring pixel p, where a piece brings `one`
   unfoldable pub broughtBy : List Face → ℕ → ℕ → List Cell
   broughtBy fs k p = any.brought (λ j f. numbered j (flatMap (λ t. one t p) (facePieces sc f))) k fs
@@ -31,7 +29,7 @@ module _ (one : Piece → ℕ → List Float) (sc : Scene) where
     pub brought-by : (fs : List Face) (k p : ℕ) → brought sc fs k p ≡ broughtBy fs k p
     unfolding brought broughtBy any.brought
     brought-by [] k p = refl
-    brought-by (f ∷ fs) k p = ap₂ (λ (ds : List Float) (cs : List Cell). numbered k ds ++ cs) (face-by f p) (brought-by fs (suc k) p)
+    brought-by (f ∷ fs) k p = ap₂ (λ (os : List Candidate) (cs : List Cell). numbered k os ++ cs) (face-by f p) (brought-by fs (suc k) p)
 
     pub drawn-by : (fs : List Face) (k : ℕ) (l : Layer) → drawn sc fs k l ≡ painted (broughtBy fs k) (sc .width * sc .height) l
     unfolding drawn

@@ -15,6 +15,7 @@ use Rattle.lists.specs.Laws.Sums.{sum-none, sum-more, sum-both, sum-most, count
 use Rattle.geometry.specs.Arith.{floats}
 use Rattle.geometry.specs.Vector.{Vec3, Projected, Triangle}
 use Rattle.geometry.specs.Leaf.{entries}
+use Rattle.cells.specs.Cell.{Candidate}
 use Rattle.meshes.specs.Mesh.{Face}
 use Rattle.rules.specs.Piece.{Piece, Corner, whole, onePiece, twoPieces, beyondNear, beforeNear, allBeyondNear, allBeforeNear, beyondBit, loneFirst, mixed, clipped, anyBehind, cornersPieces, projectedPieces, pieces, scored}
 use Rattle.rules.specs.declared.Facing.{Facing}
@@ -50,11 +51,11 @@ load-facing m xyz w h facing other fs = refl
 -- ---- pixels that depths are brought to
 
 -- whether anything is brought
-unfoldable pub brought? : List Float → Bool
+unfoldable pub brought? : List Candidate → Bool
 brought? [] = false
 brought? (d ∷ ds) = true
 
-brought-either : (xs ys : List Float) → brought? (xs ++ ys) ≡ true → brought? xs || brought? ys ≡ true
+brought-either : (xs ys : List Candidate) → brought? (xs ++ ys) ≡ true → brought? xs || brought? ys ≡ true
 unfolding brought?
 brought-either [] ys e = e
 brought-either (x ∷ xs) ys e = refl

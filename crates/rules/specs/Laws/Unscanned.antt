@@ -6,6 +6,7 @@ use mathlib.Core.Bool.{Bool, true, false, cond}
 use mathlib.Core.List.{List, []}
 use lib.Ieee.{Float}
 use Rattle.geometry.specs.Vector.{Vec3, Triangle}
+use Rattle.cells.specs.Cell.{Candidate}
 use Rattle.cells.specs.Layer.{Layer}
 use Rattle.meshes.specs.Mesh.{Face}
 use Rattle.rules.specs.Piece.{Piece}
@@ -16,10 +17,10 @@ use Rattle.rules.specs.Laws.Finite.{nowhere}
 use Rattle.rules.specs.Laws.Instead.{broughtBy, brought-by, drawn-by}
 
 -- under the scan as it was
-unfoldable pub candidateBefore : (Float → Bool) → Triangle (Vec3 Float) → ℕ → ℕ → List Float
+unfoldable pub candidateBefore : (Float → Bool) → Triangle (Vec3 Float) → ℕ → ℕ → List Candidate
 candidateBefore counted s ix iy = cond (inClosedBox s ix iy) (depthAt counted s (centreAt ix iy)) []
 
-unfoldable pub pieceBefore : Scene → Piece → ℕ → List Float
+unfoldable pub pieceBefore : Scene → Piece → ℕ → List Candidate
 pieceBefore sc t p = candidateBefore (counts (sc .facing) (t .turned)) (screened (sc .width) (sc .height) (t .corners)) (p % sc .width) (p / sc .width)
 
 -- a piece brings each pixel what it brought
@@ -27,7 +28,7 @@ candidate-same : (counted : Float → Bool) (s : Triangle (Vec3 Float)) (ix iy :
 unfolding candidate candidateBefore scans
 candidate-same counted s ix iy = go (finiteInPixels s) refl
   where
-    none : (b : Bool) → cond {A = List Float} b [] [] ≡ []
+    none : (b : Bool) → cond {A = List Candidate} b [] [] ≡ []
     none true = refl
     none false = refl
 

@@ -16,8 +16,7 @@ use Rattle.lists.specs.Laws.Sums.{count-none, count-more, count-both}
 use Rattle.lists.specs.Laws.Filters.{count-number, count-filter}
 use Rattle.lists.specs.Laws.Tests.{both}
 use Rattle.offers.specs.Offer.{offered}
-use Rattle.offers.specs.Offers.{numbered}
-use Rattle.cells.specs.Cell.{Cell}
+use Rattle.cells.specs.Cell.{Cell, numbered}
 use Rattle.cells.specs.Layer.{Layer, at}
 use Rattle.cells.specs.Steps.{Spans, written}
 use Rattle.cells.specs.Laws.Cells.{same-layer, at-written, at-other, spans-written}
