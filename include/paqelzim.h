@@ -22,8 +22,9 @@
  *   8  has every projection that the call needs an answer?
  *   9  has every point that the call needs weights?
  *
- * An image has img_w * img_h pixels, row by row from the top. A layer is a map, the number of a face or empty for
- * each pixel, and a depth for each pixel.
+ * An image has img_w * img_h pixels, row by row from the top. A layer is three slices side by side: a map, the number of a
+ * face or empty for each pixel; a depth for each pixel; and three weights for each pixel, those of pixel p at 3 * p,
+ * 3 * p + 1 and 3 * p + 2.
  *
  * The float tools have no bad input: every bit pattern has its answer. What is a NaN among the answers is only
  * promised to be a NaN, not which.
@@ -38,16 +39,24 @@
 extern "C" {
 #endif
 
-/* Clears a layer: depth -infinity and the number 4294967295, called empty, at every pixel.
- * Writes: every place of both slices.
- * Questions: 1; 4: both slices have img_w * img_h elements. */
+/* Clears a layer: depth -infinity, the number 4294967295, called empty, and three zeros, none of them -0, at every pixel.
+ * Writes: every place of the three slices.
+ * Questions: 1; 4: pix2tri and pix2depth have img_w * img_h elements, pix2weights three times as many. */
 uint32_t paqelzim_clear(uint32_t *pix2tri, size_t pix2tri_len,
                         float *pix2depth, size_t pix2depth_len,
+                        float *pix2weights, size_t pix2weights_len,
                         size_t img_w, size_t img_h);
 
 /* Draws the faces of tri2vtx (three vertex numbers each) on a layer, in list order, numbered from first on. Vertices
  * are three numbers each in vtx2xyz; transform_world2ndc has sixteen, column by column. A depth is written, with the
- * face's number, where it is greater than the stored one: an equal depth or a NaN never is, and a stored NaN stays.
+ * face's number and three weights, where it is greater than the stored one: an equal depth or a NaN never is, and a stored
+ * NaN stays.
+ *
+ * The weights are those of the piece drawn, over its corners in its order: where in the piece the pixel's centre lies on the
+ * picture, the depth being the corners' depths so weighted. A face that is not cut is one piece, and its corners are the
+ * face's. A piece of a face that the near plane cuts has other corners than the face. Where l is the face's corner that is
+ * alone on its side of the plane, p and q the others in rising order, and lp and lq the points where the edges from l cross
+ * the plane, the pieces are (l, lp, lq) where l alone is beyond the plane, and (p, q, lp), then (q, lq, lp), where p and q are.
  *
  * facing is 0 for all faces; any other number draws front pieces only. A face is front where its corners run clockwise on
  * the picture:
@@ -66,10 +75,12 @@ uint32_t paqelzim_clear(uint32_t *pix2tri, size_t pix2tri_len,
  * A body whose faces run counter-clockwise as seen from outside, under a matrix that does not mirror the picture, shows the
  * faces that are turned away; exchange two corners of each face to see those turned to the camera. A matrix that mirrors
  * the picture turns front and back round.
- * Writes: pix2tri and pix2depth, at the pixels to which a face brings a greater depth.
- * Questions: 1; 3; 4: pix2tri and pix2depth have img_w * img_h elements; 5; 6. No facing is refused. */
+ * Writes: pix2tri, pix2depth and pix2weights, at the pixels to which a face brings a greater depth.
+ * Questions: 1; 3; 4: pix2tri and pix2depth have img_w * img_h elements, pix2weights three times as many; 5; 6. No facing is
+ * refused. */
 uint32_t paqelzim_pix2tri_by_rasterization(uint32_t *pix2tri, size_t pix2tri_len,
                                            float *pix2depth, size_t pix2depth_len,
+                                           float *pix2weights, size_t pix2weights_len,
                                            const uint32_t *tri2vtx, size_t tri2vtx_len,
                                            const float *vtx2xyz, size_t vtx2xyz_len,
                                            size_t img_w, size_t img_h,
@@ -95,14 +106,16 @@ paqelzim_DrawingLoad paqelzim_drawing_load(const uint32_t *tri2vtx, size_t tri2v
                                            size_t img_w, size_t img_h,
                                            const float *transform_world2ndc);
 
-/* Joins two layers: where the right layer's depth is greater, that depth and its number go into the left. A NaN is
- * never greater, and nothing is greater than a NaN.
+/* Joins two layers: where the right layer's depth is greater, that depth, its number and its weights go into the left. A
+ * NaN is never greater, and nothing is greater than a NaN.
  * Writes: the left layer, where the right depth is greater. Its other pixels are stored again, with what they held.
- * Questions: 1; 4: all four slices have img_w * img_h elements. */
+ * Questions: 1; 4: both maps and both depths have img_w * img_h elements, both weights three times as many. */
 uint32_t paqelzim_join(uint32_t *left_pix2tri, size_t left_pix2tri_len,
                        float *left_pix2depth, size_t left_pix2depth_len,
+                       float *left_pix2weights, size_t left_pix2weights_len,
                        const uint32_t *right_pix2tri, size_t right_pix2tri_len,
                        const float *right_pix2depth, size_t right_pix2depth_len,
+                       const float *right_pix2weights, size_t right_pix2weights_len,
                        size_t img_w, size_t img_h);
 
 /* Gives each pixel the values of its face's vertices (vtx2val, num_vdim a vertex), weighted where the ray through the

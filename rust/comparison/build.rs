@@ -1,8 +1,9 @@
 //! Finds the listed Rust, in the folder that `DEL_MSH_SRC` names or in `../shared/docs/src` beside the
 //! repository, and has it compiled unchanged from there. Where it is not found, the comparison is left out.
 //! Of edgegrad.rs a second module has the places changed that 01 and 02 decide otherwise (docs/DIFFERENCES.md), and of
-//! pix2tri.rs one that also keeps its pieces, counts the pixels of the image that its scans offer (02, Point 6), and has its
-//! scan of one piece public (02, Point 7). A third of pix2tri.rs does so too and asks each candidate how it faces (02, Point 8).
+//! pix2tri.rs one that also keeps its pieces, counts the pixels of the image that its scans offer (02, Point 6), has its scan of
+//! one piece public (02, Point 7), and keeps the weights of each depth that it writes (02, Point 9). A third of pix2tri.rs does so
+//! too and asks each candidate how it faces (02, Point 8).
 use std::path::{Path, PathBuf};
 
 /// How often a place stands in a file, as listed and as changed.
@@ -54,6 +55,13 @@ const COUNTS: [Change; 3] = [
         "pub fn rasterize_projected_tri<Index>(",
     ),
 ];
+
+/// The weights kept beside the depth, where one is written; the file has them at hand and drops them.
+const WEIGHTS: [Change; 1] = [(
+    1,
+    "pix2depth[i_pix] = depth;",
+    "pix2depth[i_pix] = depth; crate::reference::weights(i_pix, [b0, b1, b2]);",
+)];
 
 /// A candidate asked how it faces, which the file does not ask: the weights give the doubled area with them, and a piece tells its
 /// scan the branch that it comes from.
@@ -157,7 +165,7 @@ fn main() {
         path
     };
     let rules = write("edgegrad_by_the_rules.rs", by_the_rules(read(&edgegrad)));
-    let counts = with(&COUNTS, read(&pix2tri));
+    let counts = with(&WEIGHTS, with(&COUNTS, read(&pix2tri)));
     let faces = write("pix2tri_facing.rs", with(&FACING, counts.clone()));
     let counting = write("pix2tri_counting.rs", counts);
     let modules = [

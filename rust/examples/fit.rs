@@ -1,6 +1,6 @@
 //! Reads how a connector housing sits, by fitting its mesh to a picture; then fits it again with a face deleted and
-//! with the mesh cut, drawn in runs and joined, and holds every number of every iteration to the same bits. It also shows the
-//! housing with and without its inner skin.
+//! with the mesh cut, drawn in runs and joined, and holds every number of every iteration to the same bits. It also shows where in
+//! its face each pixel lies, and the housing with and without its inner skin.
 //!
 //! `cargo run --release --offline --example fit -- FOLDER` writes the pictures there (`target/fit` where none is named).
 #[path = "fit/camera.rs"]
@@ -90,7 +90,7 @@ fn whole_fit(scene: &Scene) -> Result<Record, Failure> {
 /// One face deleted that held no pixel in any iteration; all such faces; the mesh cut in runs; and both.
 fn other_ways(scene: &Scene, whole: &Record) -> [Way; 4] {
     let num_tri = scene.housing.tri2vtx.len() as u32 / 3;
-    let holds = |n: &u32| whole.iter().any(|(now, _)| now.layer.pix2tri.contains(n));
+    let holds = |n: &u32| whole.iter().any(|(now, _)| now.layer.map().contains(n));
     let unseen: Vec<u32> = (0..num_tri).filter(|n| !holds(n)).collect();
     let ways = [
         (&unseen[..1], false),
@@ -179,7 +179,7 @@ mod tests {
         assert!(whole[0].1 > 5.0 && whole[ITERATIONS].1 < 0.05);
         for way in other_ways(&scene, &whole) {
             let numbers = same_bits(&scene, &way, &whole).expect("the same bits");
-            assert!(numbers > 10_000_000);
+            assert!(numbers > 20_000_000);
         }
     }
 
@@ -218,7 +218,7 @@ mod tests {
         let scene = scene();
         let pose = Pose::seated().moved(&START);
         let whole = scene.seen(&pose, &Way::default(), 0).expect("accepted");
-        let shown = whole.layer.pix2tri.iter().find(|&&n| n != u32::MAX);
+        let shown = whole.layer.map().iter().find(|&&n| n != u32::MAX);
         let way = Way {
             removed: vec![*shown.expect("a pixel is covered")],
             in_runs: false,

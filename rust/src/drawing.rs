@@ -8,6 +8,8 @@ mod ffi {
             pix2tri_len: usize,
             pix2depth: *mut f32,
             pix2depth_len: usize,
+            pix2weights: *mut f32,
+            pix2weights_len: usize,
             tri2vtx: *const u32,
             tri2vtx_len: usize,
             vtx2xyz: *const f32,
@@ -81,29 +83,61 @@ pub enum Facing {
 ///
 /// A face brings a pixel a depth where the pixel's centre lies in it, as it is projected by `transform_world2ndc` and
 /// clipped at the near plane, and where `facing` takes it: [`Facing`] tells which pieces are front. The depth is written, with
-/// the face's number, where it is greater than the stored one: an equal depth or a NaN never is, and a stored NaN stays.
+/// the face's number and the weights of its corners there, where it is greater than the stored one: an equal depth or a NaN
+/// never is, and a stored NaN stays.
 ///
-/// Writes: both slices, at the pixels to which a face brings a greater depth.
+/// The weights tell where in the piece the pixel's centre lies: they sum to about 1, and corner k has all of it where weight k
+/// is 1. They are those of the picture's plane, in which the depth is linear. A face that is not cut is one piece, with the
+/// face's own corners. Of one that the near plane cuts, they are *not* of the face's corners. With l the corner that is alone on
+/// its side, p and q the others in rising order, and lp and lq where the edges from l cross the plane:
+///
+/// | beyond the plane | pieces, each with its corners in order |
+/// |---|---|
+/// | l alone | (l, lp, lq) |
+/// | p and q | (p, q, lp), and then (q, lq, lp) |
+///
+/// Writes: the three slices, at the pixels to which a face brings a greater depth.
 ///
 /// Questions: [1](Refusal::ImageSize), [3](Refusal::MeshSize), [4](Refusal::BufferLength): `pix2tri` and `pix2depth`
-/// have `img_w * img_h` elements, [5](Refusal::FaceNumbers), [6](Refusal::VertexNumber). None depends on the facing.
+/// have `img_w * img_h` elements, `pix2weights` three times as many, [5](Refusal::FaceNumbers), [6](Refusal::VertexNumber).
+/// None depends on the facing. [`Layer::draw`](crate::Layer::draw) is the same on a layer that keeps its slices together.
 ///
 /// ```
 /// use paqelzim::Facing;
 /// let identity: [f32; 16] = std::array::from_fn(|i| if i % 5 == 0 { 1. } else { 0. });
 /// let vtx2xyz = [-1., -1., 0.25, 3., -1., 0.25, -1., 3., 0.25];
 /// let (mut pix2tri, mut pix2depth) = ([u32::MAX; 4], [f32::NEG_INFINITY; 4]);
+/// let mut pix2weights = [0.; 12];
 /// // The same face twice: the second is not greater.
 /// paqelzim::pix2tri_by_rasterization(
-///     &mut pix2tri, &mut pix2depth, &[0, 1, 2, 0, 1, 2], &vtx2xyz, 2, 2, &identity, 10, Facing::All,
+///     &mut pix2tri, &mut pix2depth, &mut pix2weights,
+///     &[0, 1, 2, 1, 2, 0], &vtx2xyz, 2, 2, &identity, 10, Facing::All,
 /// )?;
 /// assert_eq!((pix2tri, pix2depth), ([10; 4], [0.25; 4]));
+/// // Where in the face the first and the last pixel lie: both halfway to corner 0.
+/// assert_eq!(pix2weights[..3], [0.5, 0.125, 0.375]);
+/// assert_eq!(pix2weights[9..], [0.5, 0.375, 0.125]);
 ///
 /// // There is no vertex 3.
 /// let refused = paqelzim::pix2tri_by_rasterization(
-///     &mut pix2tri, &mut pix2depth, &[0, 1, 3], &vtx2xyz, 2, 2, &identity, 10, Facing::All,
+///     &mut pix2tri, &mut pix2depth, &mut pix2weights,
+///     &[0, 1, 3], &vtx2xyz, 2, 2, &identity, 10, Facing::All,
 /// );
 /// assert_eq!(refused, Err(paqelzim::Refusal::VertexNumber));
+/// # Ok::<(), paqelzim::Refusal>(())
+/// ```
+///
+/// A face that the near plane cuts, on a picture of 2 x 1 pixels:
+///
+/// ```
+/// // A camera that looks along −z, from its near plane at z = −1 on.
+/// let camera = [1., 0., 0., 0., 0., 1., 0., 0., 0., 0., -3., -1., 0., 0., -4., 0.];
+/// // Vertex 0 alone is beyond the plane, and the edges from there cross it halfway.
+/// let vtx2xyz = [-1.5, -1.5, -1.5, 7.5, -0.5, -0.5, -0.5, 7.5, -0.5];
+/// let mut layer = paqelzim::Layer::new(2, 1)?;
+/// layer.draw(&[1, 2, 0], &vtx2xyz, &camera, 0, paqelzim::Facing::All)?;
+/// // Of vertex 0 and the two crossings; of vertices 1, 2 and 0 they would be 1/32, 2/32 and 29/32.
+/// assert_eq!(layer.weights()[0], [0.625, 0.125, 0.25]);
 /// # Ok::<(), paqelzim::Refusal>(())
 /// ```
 ///
@@ -116,11 +150,9 @@ pub enum Facing {
 /// let (counter_clockwise, clockwise) = ([0, 1, 2], [0, 2, 1]);
 /// // The number of the face that holds the first pixel, once both are drawn.
 /// let held = |tri2vtx: &[u32], facing| {
-///     let (mut pix2tri, mut pix2depth) = ([u32::MAX; 4], [f32::NEG_INFINITY; 4]);
-///     paqelzim::pix2tri_by_rasterization(
-///         &mut pix2tri, &mut pix2depth, tri2vtx, &vtx2xyz, 2, 2, &identity, 0, facing,
-///     )?;
-///     Ok::<u32, paqelzim::Refusal>(pix2tri[0])
+///     let mut layer = paqelzim::Layer::new(2, 2)?;
+///     layer.draw(tri2vtx, &vtx2xyz, &identity, 0, facing)?;
+///     Ok::<u32, paqelzim::Refusal>(layer.map()[0])
 /// };
 /// let both = [counter_clockwise, clockwise].concat();
 /// assert_eq!(held(&both, Facing::All)?, 0);
@@ -132,6 +164,7 @@ pub enum Facing {
 pub fn pix2tri_by_rasterization(
     pix2tri: &mut [u32],
     pix2depth: &mut [f32],
+    pix2weights: &mut [f32],
     tri2vtx: &[u32],
     vtx2xyz: &[f32],
     img_w: usize,
@@ -148,6 +181,8 @@ pub fn pix2tri_by_rasterization(
             pix2tri.len(),
             pix2depth.as_mut_ptr(),
             pix2depth.len(),
+            pix2weights.as_mut_ptr(),
+            pix2weights.len(),
             tri2vtx.as_ptr(),
             tri2vtx.len(),
             vtx2xyz.as_ptr(),

@@ -1,9 +1,9 @@
 //! Stored cases of every call that can refuse, run again through the archive. Each file `asked` has the arguments of
 //! its cases, and `answered` the answers of the listed Rust where they are accepted, and of 01's questions elsewhere;
 //! comparison/examples/answers.rs and pass_answers.rs wrote them. A word is eight hexadecimal digits, a slice its
-//! length and its words; a case begins with its call (1 clear, 2 draw, 3 join, 4 values, 5 values backward, 6 edge
-//! types, 7 edges backward, 8 velocities, 9 load), width and height. The answer is the code, then every buffer that the
-//! call writes, a line each, or the load's pieces and pixels.
+//! length and its words, and a layer three slices: map, depths and weights. A case begins with its call (1 clear, 2 draw,
+//! 3 join, 4 values, 5 values backward, 6 edge types, 7 edges backward, 8 velocities, 9 load), width and height. The answer is
+//! the code, then every buffer that the call writes, a line each, or the load's pieces and pixels.
 
 use paqelzim::{
     bwd, clear, drawing_load, edge_gradient_and_type, interpolate, interpolate_bwd,
@@ -75,23 +75,26 @@ impl Answer {
 
 /// Calls 1 to 3.
 fn on_layers(call: u32, w: usize, h: usize, asked: &mut Asked) -> Answer {
-    let (mut map, mut depth) = (asked.numbers(), asked.floats());
-    let code = if call == 1 {
-        clear(&mut map, &mut depth, w, h)
-    } else {
-        let (numbers, floats) = (asked.numbers(), asked.floats());
-        if call == 3 {
-            join(&mut map, &mut depth, &numbers, &floats, w, h)
-        } else {
-            let m = asked.matrix();
-            let first = asked.next();
-            let all = Facing::All;
-            pix2tri_by_rasterization(
-                &mut map, &mut depth, &numbers, &floats, w, h, &m, first, all,
+    let (mut map, mut depth, mut weights) = (asked.numbers(), asked.floats(), asked.floats());
+    let layer = (&mut map[..], &mut depth[..], &mut weights[..]);
+    let code = match call {
+        1 => clear(layer.0, layer.1, layer.2, w, h),
+        2 => {
+            let (tri, xyz, m) = (asked.numbers(), asked.floats(), asked.matrix());
+            let (first, all) = (asked.next(), Facing::All);
+            pix2tri_by_rasterization(layer.0, layer.1, layer.2, &tri, &xyz, w, h, &m, first, all)
+        }
+        _ => {
+            let right = (asked.numbers(), asked.floats(), asked.floats());
+            join(
+                layer.0, layer.1, layer.2, &right.0, &right.1, &right.2, w, h,
             )
         }
     };
-    Answer::new(code).numbers(&map).floats(&depth)
+    Answer::new(code)
+        .numbers(&map)
+        .floats(&depth)
+        .floats(&weights)
 }
 
 /// Calls 4 and 5.
@@ -181,7 +184,7 @@ fn layers_as_stored() {
     replay(
         include_str!("stored/layers.asked"),
         include_str!("stored/layers.answered"),
-        [0, 37, 299, 37, 0, 0, 0, 0, 0, 0],
+        [0, 42, 304, 47, 0, 0, 0, 0, 0, 0],
     );
 }
 

@@ -1,7 +1,9 @@
-//! The drawing beside the listed Rust's, and the load beside the drawing, on one thread in one run: figures, not a test. Run by
-//! `cargo bench --offline -p comparison --bench drawing`.
+//! The drawing beside the listed Rust's, which keeps no weights, and the load beside the drawing, on one thread in one run:
+//! figures, not a test. Run by `cargo bench --offline -p comparison --bench drawing`.
+use comparison::expected::cleared;
+use comparison::layer::Layer;
 use comparison::random::Random;
-use comparison::scene::{Scene, EMPTY};
+use comparison::scene::Scene;
 use comparison::timing::least;
 
 /// A camera that looks along −z, with every face of the meshes below before it.
@@ -26,8 +28,7 @@ fn scene(side: usize, count: usize, corners: impl Fn(&mut Random) -> [[f32; 2]; 
         }
     }
     Scene {
-        pix2tri: vec![EMPTY; side * side],
-        pix2depth: vec![f32::NEG_INFINITY; side * side],
+        layer: cleared(side * side),
         tri2vtx: (0..3 * count as u32).collect(),
         vtx2xyz,
         img_w: side,
@@ -80,19 +81,11 @@ fn ball(around: usize, down: usize, side: usize, zoom: f32) -> Scene {
 }
 
 fn ours(scene: &mut Scene) {
-    let facing = scene.facing();
-    paqelzim::pix2tri_by_rasterization(
-        &mut scene.pix2tri,
-        &mut scene.pix2depth,
-        &scene.tri2vtx,
-        &scene.vtx2xyz,
-        scene.img_w,
-        scene.img_h,
-        &scene.transform_world2ndc,
-        scene.first,
-        facing,
-    )
-    .expect("the mesh is accepted");
+    let mut layer = std::mem::take(&mut scene.layer);
+    layer
+        .draw(scene, &scene.tri2vtx, scene.first)
+        .expect("the mesh is accepted");
+    scene.layer = layer;
 }
 
 fn front(scene: &mut Scene) {
@@ -113,8 +106,8 @@ fn front_beside_all(name: &str, scene: &Scene) {
 fn listed(scene: &mut Scene) {
     del_geo_core::tri2_scanline::of_image(scene.img_w, scene.img_h);
     comparison::pix2tri::pix2tri_by_rasterization::<u32>(
-        &mut scene.pix2tri,
-        &mut scene.pix2depth,
+        &mut scene.layer.pix2tri,
+        &mut scene.layer.pix2depth,
         scene.tri2vtx.as_chunks::<3>().0,
         scene.vtx2xyz.as_chunks::<3>().0,
         (scene.img_w, scene.img_h),
@@ -127,6 +120,7 @@ fn draw(name: &str, scene: &Scene) {
     let (mut first, mut second) = (scene.clone(), scene.clone());
     ours(&mut first);
     listed(&mut second);
+    let (first, second) = (first.layer, second.layer);
     assert!(first.pix2tri == second.pix2tri && first.pix2depth == second.pix2depth);
     let times = least(scene, &mut [&mut ours, &mut listed]);
     let ratio = times[0] / times[1];
@@ -165,7 +159,7 @@ fn load_beside_drawing(name: &str, scene: &Scene) {
 /// The load of one mesh at two sizes, neither of which has a layer.
 fn load_at_two_sizes(count: usize, sides: [usize; 2]) {
     let mut scene = mesh(count, 64, (25.0, 64.0), 0.0);
-    (scene.pix2tri, scene.pix2depth) = (Vec::new(), Vec::new());
+    scene.layer = Layer::default();
     let mut at = sides.map(|side| {
         move |scene: &mut Scene| {
             (scene.img_w, scene.img_h) = (side, side);

@@ -12,11 +12,12 @@ fn main() {
 
 #[cfg(listed)]
 mod listed {
+    use comparison::expected::cleared;
     use comparison::pairs::unlike_and_crossing;
     use comparison::pass::Pass;
     use comparison::random::Random;
     use comparison::reference;
-    use comparison::scene::{Scene, EMPTY};
+    use comparison::scene::Scene;
     use comparison::timing::least;
 
     const SIDE: usize = 512;
@@ -77,8 +78,7 @@ mod listed {
     /// A drawing of the mesh, with values and gradients.
     fn drawn((tri2vtx, vtx2xyz): Mesh) -> Pass {
         let scene = Scene {
-            pix2tri: vec![EMPTY; SIDE * SIDE],
-            pix2depth: vec![f32::NEG_INFINITY; SIDE * SIDE],
+            layer: cleared(SIDE * SIDE),
             tri2vtx,
             vtx2xyz,
             img_w: SIDE,
@@ -87,7 +87,7 @@ mod listed {
             first: 0,
             facing: 0,
         };
-        let pix2tri = reference::drawn(&scene).0;
+        let pix2tri = reference::drawn(&scene).layer.pix2tri;
         let random = &mut Random::new(1);
         let mut floats =
             |n: usize| -> Vec<f32> { (0..n).map(|_| random.between(-1.0, 1.0)).collect() };

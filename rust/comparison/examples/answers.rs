@@ -1,5 +1,6 @@
 //! Writes the stored cases rust/tests/stored/layers and load: `asked`, the arguments of each call, and `answered`, its answer, by the
-//! listed Rust where a scene is accepted and by 01's words (`expected`) elsewhere. Run at the root of the
+//! listed Rust with the weights kept where a scene is accepted and by 01's and 02's words (`expected`) elsewhere. A layer is three
+//! lines, asked and answered: map, depths and weights, three a pixel. Run at the root of the
 //! repository by `cargo run --release --offline --manifest-path rust/Cargo.toml -p comparison --example answers`.
 //! A number after `--` gives another count of scenes than 300.
 
@@ -14,6 +15,7 @@ fn main() -> std::io::Result<()> {
     let mut cases = comparison::stored::Cases::default();
     layers::draws(&mut cases, count);
     layers::clears_and_joins(&mut cases, count / 8);
+    layers::with_wrong_weights(&mut cases);
     cases.write("layers")?;
     let mut cases = comparison::stored::Cases::default();
     layers::loads(&mut cases, count / 2);
@@ -22,7 +24,8 @@ fn main() -> std::io::Result<()> {
 
 #[cfg(listed)]
 mod layers {
-    use comparison::expected::{clear_code, draw_code, join_code, joined, load_code, CLEAR};
+    use comparison::expected::{clear_code, cleared, draw_code, join_code, joined, load_code};
+    use comparison::layer::{any_weights, wrong_lengths, Layer};
     use comparison::random::Random;
     use comparison::reference;
     use comparison::scene::{scene, Scene};
@@ -33,8 +36,17 @@ mod layers {
     /// Images beyond this would only make the files long.
     const PIXELS: usize = 30;
 
-    fn outcome(pix2tri: &[u32], pix2depth: &[f32]) -> [String; 2] {
-        [answer_numbers(pix2tri), answer_floats(pix2depth)]
+    fn asked(layer: &Layer) -> String {
+        let weights = floats(&layer.pix2weights);
+        [numbers(&layer.pix2tri), floats(&layer.pix2depth), weights].concat()
+    }
+
+    fn answered(layer: &Layer) -> [String; 3] {
+        [
+            answer_numbers(&layer.pix2tri),
+            answer_floats(&layer.pix2depth),
+            answer_floats(&layer.pix2weights),
+        ]
     }
 
     fn fits(scene: &Scene) -> bool {
@@ -42,8 +54,8 @@ mod layers {
         let lengths = [scene.tri2vtx.len(), scene.vtx2xyz.len()];
         side(scene.img_w)
             && side(scene.img_h)
-            && scene.pix2tri.len() <= PIXELS
-            && scene.pix2depth.len() <= PIXELS
+            && scene.layer.pix2tri.len() <= PIXELS
+            && scene.layer.pix2depth.len() <= PIXELS
             && lengths.iter().all(|&n| n <= ROOM)
     }
 
@@ -54,32 +66,38 @@ mod layers {
             if left == [0; 3] {
                 return;
             }
-            let code = draw_code(&scene);
-            let (pix2tri, pix2depth) = if code == 0 {
-                reference::drawn(&scene)
-            } else {
-                (scene.pix2tri.clone(), scene.pix2depth.clone())
-            };
-            let kind = if code != 0 {
+            let after = drawn(&scene);
+            let kind = if draw_code(&scene) != 0 {
                 2
             } else {
-                usize::from(pix2tri == scene.pix2tri)
+                usize::from(after.pix2tri == scene.layer.pix2tri)
             };
             if left[kind] == 0 {
                 continue;
             }
             left[kind] -= 1;
-            let asked = [
-                numbers(&scene.pix2tri),
-                floats(&scene.pix2depth),
-                numbers(&scene.tri2vtx),
-                floats(&scene.vtx2xyz),
-                line(scene.transform_world2ndc.map(f32::to_bits)),
-                line([scene.first]),
-            ];
-            let head = [2, scene.img_w as u32, scene.img_h as u32];
-            cases.add(&head, &asked, code, &outcome(&pix2tri, &pix2depth));
+            draw(cases, &scene, &after);
         }
+    }
+
+    /// The layer after the call: as it was where that is refused.
+    fn drawn(scene: &Scene) -> Layer {
+        match draw_code(scene) {
+            0 => reference::drawn(scene).layer,
+            _ => scene.layer.clone(),
+        }
+    }
+
+    fn draw(cases: &mut Cases, scene: &Scene, after: &Layer) {
+        let asked = [
+            asked(&scene.layer),
+            numbers(&scene.tri2vtx),
+            floats(&scene.vtx2xyz),
+            line(scene.transform_world2ndc.map(f32::to_bits)),
+            line([scene.first]),
+        ];
+        let head = [2, scene.img_w as u32, scene.img_h as u32];
+        cases.add(&head, &asked, draw_code(scene), &answered(after));
     }
 
     /// Of six scenes four that are offered a pixel, one accepted that is not, one refused.
@@ -114,6 +132,28 @@ mod layers {
         }
     }
 
+    fn clear(cases: &mut Cases, layer: &Layer, (w, h): (usize, usize)) {
+        let code = clear_code(layer, w, h);
+        let after = match code {
+            0 => cleared(w * h),
+            _ => layer.clone(),
+        };
+        let head = [1, w as u32, h as u32];
+        cases.add(&head, &[asked(layer)], code, &answered(&after));
+    }
+
+    fn join(cases: &mut Cases, left: &Layer, right: &Layer, (w, h): (usize, usize)) {
+        let code = join_code([left, right], w, h);
+        let after = match code {
+            0 => joined(left, right),
+            _ => left.clone(),
+        };
+        let head = [3, w as u32, h as u32];
+        let asked = [asked(left), asked(right)];
+        cases.add(&head, &asked, code, &answered(&after));
+    }
+
+    /// With maps and depths of a wrong length in one case of four.
     pub fn clears_and_joins(cases: &mut Cases, count: usize) {
         for seed in 0..count as u64 {
             let random = &mut Random::new(seed);
@@ -122,32 +162,26 @@ mod layers {
                 0 => (w * h + random.below(3)).saturating_sub(1),
                 _ => w * h,
             };
-            let lengths = [length(), length(), length(), length()];
-            let mut layer = |n: usize, d: usize| {
-                let pix2tri: Vec<u32> = (0..n).map(|_| random.bits() as u32).collect();
-                let pix2depth: Vec<f32> = (0..d).map(|_| random.hostile()).collect();
-                (pix2tri, pix2depth)
-            };
-            let (left_n, left_d) = layer(lengths[0], lengths[1]);
-            let (right_n, right_d) = layer(lengths[2], lengths[3]);
-            let left = [numbers(&left_n), floats(&left_d)];
-            let kept = outcome(&left_n, &left_d);
-            let (w32, h32) = (w as u32, h as u32);
-            let code = clear_code(lengths[0], lengths[1], w, h);
-            let cleared = outcome(&vec![CLEAR.0; w * h], &vec![CLEAR.1; w * h]);
-            cases.add(
-                &[1, w32, h32],
-                &left,
-                code,
-                if code == 0 { &cleared } else { &kept },
-            );
-            let cells = left_n.into_iter().zip(left_d);
-            let others = right_n.iter().copied().zip(right_d.iter().copied());
-            let (n, d): (Vec<u32>, Vec<f32>) = cells.zip(others).map(|(l, r)| joined(l, r)).unzip();
-            let code = join_code(lengths, w, h);
-            let after = if code == 0 { outcome(&n, &d) } else { kept };
-            let asked = [left.concat(), numbers(&right_n) + &floats(&right_d)];
-            cases.add(&[3, w32, h32], &asked, code, &after);
+            let lengths = [[length(), length()], [length(), length()]];
+            let [left, right] = lengths.map(|[n, d]| Layer::any(random, [n, d, 3 * w * h]));
+            clear(cases, &left, (w, h));
+            join(cases, &left, &right, (w, h));
+        }
+    }
+
+    /// Weights of a wrong length, in a layer that is cleared, drawn on, and joined from either side.
+    pub fn with_wrong_weights(cases: &mut Cases) {
+        let some = |scene: &Scene| draw_code(scene) == 0 && scene.layer.pix2tri.len() > 1;
+        let mut scene = (0..).map(scene).filter(fits).find(some).expect("a scene");
+        let size = (scene.img_w, scene.img_h);
+        let exact = scene.layer.clone();
+        for length in wrong_lengths(exact.pix2tri.len()) {
+            let wrong = any_weights(&mut Random::new(length as u64), length);
+            scene.layer.pix2weights = wrong;
+            clear(cases, &scene.layer, size);
+            draw(cases, &scene, &drawn(&scene));
+            join(cases, &scene.layer, &exact, size);
+            join(cases, &exact, &scene.layer, size);
         }
     }
 }

@@ -1,8 +1,8 @@
 //! Writes the cases of crates/stops: `stdin`, pieces to scan, and `stdout`, the layer after each number of visits from none to
 //! two more than there are. The visits are worked out here, column by column and each from the top (02, Point 7), by 01's words
-//! and the corner weights that the listed Rust calls; their number and the layer after all of them are held to the listed scan
-//! of the same piece. The pieces: shapes in pixels, random ones, and those that the listed near clip makes of faces. Run at the
-//! root of the repository by
+//! and the corner weights that the listed Rust calls; their number and the layer after all of them, weights too, are held to the
+//! listed scan of the same piece. Before a scan every weight is 0.5. The pieces: shapes in pixels, random ones, and those that the
+//! listed near clip makes of faces. Run at the root of the repository by
 //! `cargo run --release --offline --manifest-path rust/Cargo.toml -p comparison --example stops`.
 
 #[cfg(not(listed))]
@@ -28,6 +28,7 @@ fn main() -> std::io::Result<()> {
 /// Scans, stopped.
 #[cfg(listed)]
 mod stops {
+    use comparison::layer::{bits, Cell, Layer};
     use comparison::reference::{self, Piece};
     use comparison::scene::EMPTY;
     use comparison::stored::{answer_floats, answer_numbers, line};
@@ -46,8 +47,11 @@ mod stops {
         NaN,
     }
 
-    /// A visit: the pixel, and the depth that it is brought, if any.
-    type Visit = (usize, Option<f32>);
+    /// What a piece brings a pixel: depth and weights.
+    pub type Offer = (f32, [f32; 3]);
+
+    /// A visit: the pixel, and what it is brought, if anything.
+    pub type Visit = (usize, Option<Offer>);
 
     pub fn in_pixels([x, y, _]: [f32; 3]) -> [f32; 2] {
         [
@@ -56,11 +60,12 @@ mod stops {
         ]
     }
 
-    fn depth(ndc: Piece, centre: [f32; 2]) -> Option<f32> {
+    fn offer(ndc: Piece, centre: [f32; 2]) -> Option<Offer> {
         let [p0, p1, p2] = ndc.map(in_pixels);
         let (b0, b1, b2) = barycentric_coords(&p0, &p1, &p2, &centre)?;
         let dropped = [b0, b1, b2].iter().any(|&b| b < -1e-5);
-        (!dropped).then(|| b0 * ndc[0][2] + b1 * ndc[1][2] + b2 * ndc[2][2])
+        let depth = b0 * ndc[0][2] + b1 * ndc[1][2] + b2 * ndc[2][2];
+        (!dropped).then_some((depth, [b0, b1, b2]))
     }
 
     /// All visits of a piece, in order.
@@ -77,7 +82,7 @@ mod stops {
             for iy in 0..HEIGHT {
                 let centre = [ix as f32 + 0.5, iy as f32 + 0.5];
                 if spans(0, centre[0]) && spans(1, centre[1]) {
-                    list.push((iy * WIDTH + ix, depth(ndc, centre)));
+                    list.push((iy * WIDTH + ix, offer(ndc, centre)));
                 }
             }
         }
@@ -85,7 +90,8 @@ mod stops {
     }
 
     fn depth_before(before: Before, visits: &[Visit]) -> f32 {
-        let mut depths: Vec<f32> = visits.iter().filter_map(|visit| visit.1).collect();
+        let offers = visits.iter().filter_map(|visit| visit.1);
+        let mut depths: Vec<f32> = offers.map(|(depth, _)| depth).collect();
         depths.sort_by(f32::total_cmp);
         match before {
             Before::Clear => f32::NEG_INFINITY,
@@ -94,35 +100,38 @@ mod stops {
         }
     }
 
-    /// Map and depths after visits, one after the other.
-    fn after(visits: &[Visit], number: u32, depth: f32) -> (Vec<u32>, Vec<f32>) {
-        let (mut numbers, mut depths) = (vec![EMPTY; PIXELS], vec![depth; PIXELS]);
+    /// The layer, which held that depth everywhere, after visits, one after the other.
+    fn after(visits: &[Visit], number: u32, depth: f32) -> Layer {
+        let mut cells = vec![(EMPTY, depth, [0.5; 3]); PIXELS];
         for &(pixel, brought) in visits {
-            if let Some(z) = brought.filter(|&z| z > depths[pixel]) {
-                (numbers[pixel], depths[pixel]) = (number, z);
+            if let Some((z, weights)) = brought.filter(|offer| offer.0 > cells[pixel].1) {
+                cells[pixel] = (number, z, weights);
             }
         }
-        (numbers, depths)
+        cells.into_iter().collect()
     }
 
     fn is_the_listed_scan(visits: &[Visit], number: u32, depth: f32, ndc: Piece) {
-        let (mut numbers, mut depths) = after(&[], number, depth);
-        let shape = (WIDTH, HEIGHT);
-        let offered = reference::scan(&mut numbers, &mut depths, shape, number, ndc);
+        let mut listed = after(&[], number, depth);
+        let offered = reference::scan(&mut listed, (WIDTH, HEIGHT), number, ndc);
         assert_eq!(offered, visits.len() as u64, "piece {number}: {ndc:?}");
         let ours = after(visits, number, depth);
-        assert_eq!(ours.0, numbers, "piece {number}: {ndc:?}");
-        let words = [ours.1, depths].map(|depths| answer_floats(&depths));
+        let words = [ours, listed].map(|layer| {
+            let depths = answer_floats(&layer.pix2depth);
+            (layer.pix2tri, depths, bits(&layer.pix2weights))
+        });
         assert_eq!(words[0], words[1], "piece {number}: {ndc:?}");
     }
 
-    /// The line after n visits: of each pixel that was written, which, its map entry and its depth, which is no NaN, as it was
-    /// greater than another.
+    /// The line after n visits: of each pixel that was written, which, its map entry, its depth and its three weights. None of
+    /// these is a NaN, as the depth was greater than another.
     fn stop(visits: &[Visit], number: u32, depth: f32, n: usize) -> String {
-        let (numbers, depths) = after(&visits[..n.min(visits.len())], number, depth);
+        let layer = after(&visits[..n.min(visits.len())], number, depth);
         let mut words = vec![n as u32];
-        for pixel in (0..PIXELS).filter(|&pixel| numbers[pixel] != EMPTY) {
-            words.extend([pixel as u32, numbers[pixel], depths[pixel].to_bits()]);
+        let written = |(_, cell): &(usize, Cell)| cell.0 != EMPTY;
+        for (pixel, (number, depth, weights)) in layer.cells().enumerate().filter(written) {
+            words.extend([pixel as u32, number, depth.to_bits()]);
+            words.extend(weights.map(f32::to_bits));
         }
         answer_numbers(&words)
     }

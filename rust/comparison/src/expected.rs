@@ -1,4 +1,5 @@
-//! The questions of 01, and clearing and joining, read into Rust a second time.
+//! The questions of 01, and clearing and joining, of the layer that 02 gives weights (Point 9), read into Rust a second time.
+use crate::layer::{Cell, Layer};
 use crate::pass::{Pass, Velocities};
 use crate::scene::{Scene, EMPTY, MOST};
 use del_geo_core::mat4_col_major::transform_homogeneous;
@@ -25,18 +26,23 @@ fn first_no(answers: &[(u32, &dyn Fn() -> bool)]) -> u32 {
         .map_or(0, |(number, _)| *number)
 }
 
-pub fn clear_code(numbers: usize, depths: usize, img_w: usize, img_h: usize) -> u32 {
+fn layer_is_exact(layer: &Layer, img_w: usize, img_h: usize) -> bool {
+    let pixels = img_w * img_h;
+    layer.lengths() == [pixels, pixels, 3 * pixels]
+}
+
+pub fn clear_code(layer: &Layer, img_w: usize, img_h: usize) -> u32 {
     first_no(&[
         (1, &|| size_is_asked(img_w, img_h)),
-        (4, &|| numbers == img_w * img_h && depths == img_w * img_h),
+        (4, &|| layer_is_exact(layer, img_w, img_h)),
     ])
 }
 
-/// The lengths are those of the left layer, then of the right one: numbers, depths.
-pub fn join_code(lengths: [usize; 4], img_w: usize, img_h: usize) -> u32 {
+pub fn join_code([left, right]: [&Layer; 2], img_w: usize, img_h: usize) -> u32 {
     first_no(&[
         (1, &|| size_is_asked(img_w, img_h)),
-        (4, &|| lengths.iter().all(|&length| length == img_w * img_h)),
+        (4, &|| layer_is_exact(left, img_w, img_h)),
+        (4, &|| layer_is_exact(right, img_w, img_h)),
     ])
 }
 
@@ -46,9 +52,7 @@ pub fn draw_code(scene: &Scene) -> u32 {
     first_no(&[
         (1, &|| size_is_asked(w, h)),
         (3, &|| mesh_is_whole(&scene.tri2vtx, &scene.vtx2xyz)),
-        (4, &|| {
-            scene.pix2tri.len() == w * h && scene.pix2depth.len() == w * h
-        }),
+        (4, &|| layer_is_exact(&scene.layer, w, h)),
         (5, &|| scene.first as usize + faces <= MOST as usize),
         (6, &|| faces_name_vertices(&scene.tri2vtx, &scene.vtx2xyz)),
     ])
@@ -181,14 +185,14 @@ pub fn interpolate_from_edges_code(v: &Velocities) -> u32 {
     ])
 }
 
-/// The cell of a clear layer: number and depth.
-pub const CLEAR: (u32, f32) = (EMPTY, f32::NEG_INFINITY);
+/// A clear layer of so many pixels.
+pub fn cleared(pixels: usize) -> Layer {
+    let clear: Cell = (EMPTY, f32::NEG_INFINITY, [0.0; 3]);
+    std::iter::repeat_n(clear, pixels).collect()
+}
 
 /// The right cell where its depth is greater, else the left one.
-pub fn joined(left: (u32, f32), right: (u32, f32)) -> (u32, f32) {
-    if right.1 > left.1 {
-        right
-    } else {
-        left
-    }
+pub fn joined(left: &Layer, right: &Layer) -> Layer {
+    let join = |(left, right): (Cell, Cell)| if right.1 > left.1 { right } else { left };
+    left.cells().zip(right.cells()).map(join).collect()
 }

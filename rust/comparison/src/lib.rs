@@ -7,7 +7,9 @@ include!(concat!(env!("OUT_DIR"), "/listed.rs"));
 #[cfg(listed)]
 pub mod reference;
 
+pub mod cut;
 pub mod expected;
+pub mod layer;
 pub mod pairs;
 pub mod pass;
 pub mod random;

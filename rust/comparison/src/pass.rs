@@ -131,12 +131,11 @@ fn map(random: &mut Random, scene: &Scene) -> Vec<u32> {
         #[cfg(listed)]
         1..=3 => {
             let clear = Scene {
-                pix2tri: vec![EMPTY; pixels],
-                pix2depth: vec![f32::NEG_INFINITY; pixels],
+                layer: crate::expected::cleared(pixels),
                 first: 0,
                 ..scene.clone()
             };
-            crate::reference::drawn(&clear).0
+            crate::reference::drawn(&clear).layer.pix2tri
         }
         _ => patches(random, scene.img_w, pixels, faces),
     }

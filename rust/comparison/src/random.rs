@@ -68,4 +68,14 @@ impl Random {
     pub fn hostile(&mut self) -> f32 {
         f32::from_bits(self.one_of(&HOSTILE))
     }
+
+    /// A signalling NaN of either sign and any payload.
+    pub fn signalling(&mut self) -> f32 {
+        f32::from_bits(self.bits() as u32 & 0x803f_ffff | 0x7f80_0001)
+    }
+
+    /// Other numbers, which leave these as they are.
+    pub fn beside(&self) -> Self {
+        Self(self.0 ^ 0x5851_f42d_4c95_7f2d)
+    }
 }

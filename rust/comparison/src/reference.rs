@@ -1,4 +1,6 @@
-//! The listed calls, over flat slices; the drawing with a first number.
+//! The listed calls, over flat slices; the drawing with a first number, and with weights beside the depths.
+use crate::expected::cleared;
+use crate::layer::Layer;
 use crate::pass::{Pass, Velocities};
 use crate::scene::{Scene, EMPTY};
 use std::cell::{Cell, RefCell};
@@ -15,6 +17,8 @@ thread_local! {
     static PIECES: RefCell<Vec<Piece>> = const { RefCell::new(Vec::new()) };
     /// The pixels that its scans have offered.
     static PIXELS: Cell<u64> = const { Cell::new(0) };
+    /// The weights of the layer on which a file draws that keeps them.
+    static WEIGHTS: RefCell<Vec<f32>> = const { RefCell::new(Vec::new()) };
     /// What the facing file asks its candidates, and those that it has asked.
     static FACING: Cell<u32> = const { Cell::new(0) };
     static CANDIDATES: RefCell<Candidates> = const { RefCell::new(Candidates::new()) };
@@ -65,6 +69,11 @@ pub fn piece(ndc: Piece) {
 /// Its scan has offered a pixel of the image.
 pub fn pixel() {
     PIXELS.set(PIXELS.get() + 1);
+}
+
+/// A depth was written: the weights of its candidate go beside it.
+pub fn weights(pixel: usize, candidate: [f32; 3]) {
+    WEIGHTS.with_borrow_mut(|weights| weights.as_chunks_mut::<3>().0[pixel] = candidate);
 }
 
 /// What a listed call leaves, or nothing where it panics, without a word.
@@ -234,63 +243,77 @@ pub fn interpolate_from_edges(v: &Velocities) -> Option<Vec<f32>> {
 /// `pix2tri_by_rasterization` of one of the files.
 type Draw = fn(&mut [u32], &mut [f32], &[[u32; 3]], &[[f32; 3]], (usize, usize), &[f32; 16]);
 
-/// Map and depths after the file has drawn an accepted scene. It numbers faces from 0 and never reads the map, so it
-/// draws on an empty one: what is no longer empty was written.
-fn drawn_by(draw: Draw, scene: &Scene) -> (Vec<u32>, Vec<f32>) {
-    let mut written = vec![EMPTY; scene.pix2tri.len()];
-    let mut depths = scene.pix2depth.clone();
+/// What a file leaves of a layer on which it draws the scene's mesh. Of the file as it is listed, the weights are those from
+/// before.
+fn drawn_on(mut layer: Layer, draw: Draw, scene: &Scene) -> Layer {
+    PIECES.take();
+    PIXELS.set(0);
+    CANDIDATES.take();
+    FACING.set(scene.facing);
+    WEIGHTS.set(layer.pix2weights);
     del_geo_core::tri2_scanline::of_image(scene.img_w, scene.img_h);
     draw(
-        &mut written,
-        &mut depths,
+        &mut layer.pix2tri,
+        &mut layer.pix2depth,
         scene.tri2vtx.as_chunks::<3>().0,
         scene.vtx2xyz.as_chunks::<3>().0,
         (scene.img_w, scene.img_h),
         &scene.transform_world2ndc,
     );
-    let number = |(&old, &new): (&u32, &u32)| if new == EMPTY { old } else { new + scene.first };
-    let numbers = scene.pix2tri.iter().zip(&written).map(number).collect();
-    (numbers, depths)
+    layer.pix2weights = WEIGHTS.take();
+    layer
 }
 
-/// Map and depths after the listed Rust has drawn an accepted scene, of all faces.
-pub fn drawn(scene: &Scene) -> (Vec<u32>, Vec<f32>) {
+/// The layer of a scene once it is drawn, and the face that was written at each pixel, from 0 on, or empty where none was.
+pub struct Drawn {
+    pub layer: Layer,
+    pub written: Vec<u32>,
+}
+
+/// A file numbers faces from 0 and never reads the map, so it draws on an empty one: what is no longer empty was written.
+fn drawn_by(draw: Draw, scene: &Scene) -> Drawn {
+    let mut layer = scene.layer.clone();
+    let before = std::mem::replace(&mut layer.pix2tri, vec![EMPTY; scene.img_w * scene.img_h]);
+    let mut layer = drawn_on(layer, draw, scene);
+    let number = |(&old, &new): (&u32, &u32)| if new == EMPTY { old } else { new + scene.first };
+    let numbers = before.iter().zip(&layer.pix2tri).map(number).collect();
+    let written = std::mem::replace(&mut layer.pix2tri, numbers);
+    Drawn { layer, written }
+}
+
+/// An accepted scene drawn by the listed Rust with the weights kept, of all faces.
+pub fn drawn(scene: &Scene) -> Drawn {
     assert_eq!(scene.facing, 0, "the listed Rust has no facing");
-    drawn_by(crate::pix2tri::pix2tri_by_rasterization::<u32>, scene)
+    drawn_by(
+        crate::pix2tri_counting::pix2tri_by_rasterization::<u32>,
+        scene,
+    )
+}
+
+/// The same by the file as it is listed, which has no weights: map and depths.
+pub fn drawn_as_listed(scene: &Scene) -> (Vec<u32>, Vec<f32>) {
+    assert_eq!(scene.facing, 0, "the listed Rust has no facing");
+    let layer = drawn_by(crate::pix2tri::pix2tri_by_rasterization::<u32>, scene).layer;
+    (layer.pix2tri, layer.pix2depth)
 }
 
 /// The same with the scene's facing, by the file that asks for it; and the candidates that it has asked.
-pub fn drawn_facing(scene: &Scene) -> ((Vec<u32>, Vec<f32>), Candidates) {
-    FACING.set(scene.facing);
-    CANDIDATES.take();
-    let layer = drawn_by(
+pub fn drawn_facing(scene: &Scene) -> (Drawn, Candidates) {
+    let drawn = drawn_by(
         crate::pix2tri_facing::pix2tri_by_rasterization::<u32>,
         scene,
     );
-    PIECES.take();
-    (layer, CANDIDATES.take())
+    (drawn, CANDIDATES.take())
 }
 
 /// The pieces of the listed Rust while it draws an accepted mesh, and how many pixels they are offered. Of front pieces, those
 /// of the file that asks for them.
 fn counted(scene: &Scene) -> (Vec<Piece>, u64) {
-    let pixels = scene.img_w * scene.img_h;
     let draw: Draw = match scene.facing {
         0 => crate::pix2tri_counting::pix2tri_by_rasterization::<u32>,
         _ => crate::pix2tri_facing::pix2tri_by_rasterization::<u32>,
     };
-    PIECES.take();
-    PIXELS.set(0);
-    FACING.set(scene.facing);
-    del_geo_core::tri2_scanline::of_image(scene.img_w, scene.img_h);
-    draw(
-        &mut vec![EMPTY; pixels],
-        &mut vec![f32::NEG_INFINITY; pixels],
-        scene.tri2vtx.as_chunks::<3>().0,
-        scene.vtx2xyz.as_chunks::<3>().0,
-        (scene.img_w, scene.img_h),
-        &scene.transform_world2ndc,
-    );
+    drawn_on(cleared(scene.img_w * scene.img_h), draw, scene);
     (PIECES.take(), PIXELS.get())
 }
 
@@ -306,16 +329,13 @@ pub fn pieces(scene: &Scene) -> Vec<Piece> {
 }
 
 /// The listed scan of one piece on a layer; how many pixels of the image it offers.
-pub fn scan(
-    pix2tri: &mut [u32],
-    pix2depth: &mut [f32],
-    img_shape: (usize, usize),
-    number: u32,
-    ndc: Piece,
-) -> u64 {
+pub fn scan(layer: &mut Layer, img_shape: (usize, usize), number: u32, ndc: Piece) -> u64 {
     PIXELS.set(0);
+    WEIGHTS.set(std::mem::take(&mut layer.pix2weights));
     del_geo_core::tri2_scanline::of_image(img_shape.0, img_shape.1);
+    let (pix2tri, pix2depth) = (&mut layer.pix2tri, &mut layer.pix2depth);
     crate::pix2tri_counting::rasterize_projected_tri(pix2tri, pix2depth, img_shape, number, ndc);
+    layer.pix2weights = WEIGHTS.take();
     PIXELS.get()
 }
 

@@ -1,5 +1,6 @@
 //! Meshes to draw, random and hostile: both signs of `m[11]`, orthographic, clipped, degenerate, repeated, with
 //! ties, with NaNs, infinities, subnormals and −0, on images from 1 × 1, and with arguments to refuse.
+use crate::layer::{any_weights, Layer};
 use crate::random::Random;
 
 pub const EMPTY: u32 = u32::MAX;
@@ -10,8 +11,7 @@ const DEPTHS: [f32; 4] = [0.25, 0.5, -0.5, 0.0];
 /// The arguments of one drawing.
 #[derive(Clone, Debug)]
 pub struct Scene {
-    pub pix2tri: Vec<u32>,
-    pub pix2depth: Vec<f32>,
+    pub layer: Layer,
     pub tri2vtx: Vec<u32>,
     pub vtx2xyz: Vec<f32>,
     pub img_w: usize,
@@ -98,11 +98,10 @@ fn finished(
     tri2vtx: Vec<u32>,
     vtx2xyz: Vec<f32>,
 ) -> Scene {
-    let (pix2tri, pix2depth) = layer(random, img_w * img_h, &DEPTHS);
+    let layer = layer(random, img_w * img_h, &DEPTHS);
     let first = first_number(random, tri2vtx.len() / 3);
     Scene {
-        pix2tri,
-        pix2depth,
+        layer,
         tri2vtx,
         vtx2xyz,
         img_w,
@@ -211,7 +210,8 @@ fn faces(random: &mut Random, vertices: usize, count: usize) -> Vec<u32> {
     list
 }
 
-fn layer(random: &mut Random, pixels: usize, depths: &[f32]) -> (Vec<u32>, Vec<f32>) {
+fn layer(random: &mut Random, pixels: usize, depths: &[f32]) -> Layer {
+    let pix2weights = any_weights(&mut random.beside(), 3 * pixels);
     let style = random.below(4);
     let numbers = (0..pixels).map(|_| {
         if style == 0 {
@@ -220,13 +220,17 @@ fn layer(random: &mut Random, pixels: usize, depths: &[f32]) -> (Vec<u32>, Vec<f
             random.bits() as u32
         }
     });
-    let numbers: Vec<u32> = numbers.collect();
+    let pix2tri = numbers.collect();
     let depth = |random: &mut Random| match style {
         0 | 1 => f32::NEG_INFINITY,
         2 => random.one_of(depths),
         _ => random.hostile(),
     };
-    (numbers, (0..pixels).map(|_| depth(random)).collect())
+    Layer {
+        pix2tri,
+        pix2depth: (0..pixels).map(|_| depth(random)).collect(),
+        pix2weights,
+    }
 }
 
 fn first_number(random: &mut Random, faces: usize) -> u32 {
@@ -304,10 +308,10 @@ fn spoil(random: &mut Random, scene: &mut Scene) {
         4 => drop(scene.tri2vtx.pop()),
         5 => scene.vtx2xyz.push(0.0),
         6 => drop(scene.vtx2xyz.pop()),
-        7 => scene.pix2tri.push(7),
-        8 => drop(scene.pix2tri.pop()),
-        9 => scene.pix2depth.push(0.5),
-        10 => drop(scene.pix2depth.pop()),
+        7 => scene.layer.pix2tri.push(7),
+        8 => drop(scene.layer.pix2tri.pop()),
+        9 => scene.layer.pix2depth.push(0.5),
+        10 => drop(scene.layer.pix2depth.pop()),
         11 => scene.first = MOST + 1 - (scene.tri2vtx.len() / 3) as u32,
         12 => scene.first = random.one_of(&[u32::MAX, MOST + 1, 1 << 31]),
         13..=14 if !scene.tri2vtx.is_empty() => {

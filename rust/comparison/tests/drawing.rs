@@ -1,13 +1,10 @@
-//! The drawing call: refusals, and every number of the lent buffers, beside the questions of 01 and, where its
-//! source is found, the listed Rust, bit for bit on 200,000 scenes: of all faces beside the file as it is listed, and of front
-//! pieces beside the one in which each candidate is asked how it faces.
+//! The drawing call: refusals, and every number of the three lent buffers, beside the questions of 01 and, where its
+//! source is found, the listed Rust, bit for bit on 200,000 scenes: of all faces beside the file as it is listed and the one that
+//! keeps the weights, and of front pieces beside the one in which each candidate is asked how it faces, and which keeps them too.
 use comparison::expected::draw_code;
-#[cfg(listed)]
+use comparison::layer::{any_weights, bits, wrong_lengths, Left};
 use comparison::random::Random;
-#[cfg(listed)]
-use comparison::scene::crowded;
 use comparison::scene::{scene, Scene, MOST};
-use paqelzim::pix2tri_by_rasterization;
 
 const SCENES: u64 = 200_000;
 /// Scenes of larger images and some hundred faces.
@@ -15,14 +12,17 @@ const SCENES: u64 = 200_000;
 const CROWDED: u64 = 2_000;
 /// Places before and after each lent buffer, which no call may touch.
 const MARGIN: usize = 5;
-
-fn bits(depths: &[f32]) -> Vec<u32> {
-    depths.iter().map(|depth| depth.to_bits()).collect()
-}
+/// What they hold; as a float it is a signalling NaN.
+const MARK: u32 = 0x7fa1_b2c3;
 
 fn with_margins<T: Copy>(values: &[T], mark: T) -> Vec<T> {
     let margin = [mark; MARGIN];
     [&margin, values, &margin].concat()
+}
+
+fn inside<T>(values: &mut [T]) -> &mut [T] {
+    let end = values.len() - MARGIN;
+    &mut values[MARGIN..end]
 }
 
 extern "C" {
@@ -31,6 +31,8 @@ extern "C" {
         pix2tri_len: usize,
         pix2depth: *mut f32,
         pix2depth_len: usize,
+        pix2weights: *mut f32,
+        pix2weights_len: usize,
         tri2vtx: *const u32,
         tri2vtx_len: usize,
         vtx2xyz: *const f32,
@@ -44,14 +46,16 @@ extern "C" {
 }
 
 /// The code of the call as C makes it, with any facing.
-fn called(scene: &Scene, pix2tri: &mut [u32], pix2depth: &mut [f32]) -> u32 {
+fn called(scene: &Scene, numbers: &mut [u32], depths: &mut [f32], weights: &mut [f32]) -> u32 {
     // SAFETY: each pointer comes with its slice's own length; the matrix has its sixteen numbers.
     unsafe {
         paqelzim_pix2tri_by_rasterization(
-            pix2tri.as_mut_ptr(),
-            pix2tri.len(),
-            pix2depth.as_mut_ptr(),
-            pix2depth.len(),
+            numbers.as_mut_ptr(),
+            numbers.len(),
+            depths.as_mut_ptr(),
+            depths.len(),
+            weights.as_mut_ptr(),
+            weights.len(),
             scene.tri2vtx.as_ptr(),
             scene.tri2vtx.len(),
             scene.vtx2xyz.as_ptr(),
@@ -65,52 +69,38 @@ fn called(scene: &Scene, pix2tri: &mut [u32], pix2depth: &mut [f32]) -> u32 {
     }
 }
 
-/// The code, and both buffers afterwards, of a drawing.
-type Drawn = (u32, Vec<u32>, Vec<u32>);
-
 /// The package's drawing.
-fn packaged(scene: &Scene) -> Drawn {
-    let (mut numbers, mut depths) = (scene.pix2tri.clone(), scene.pix2depth.clone());
-    let answer = pix2tri_by_rasterization(
-        &mut numbers,
-        &mut depths,
-        &scene.tri2vtx,
-        &scene.vtx2xyz,
-        scene.img_w,
-        scene.img_h,
-        &scene.transform_world2ndc,
-        scene.first,
-        scene.facing(),
-    );
-    let code = answer.map_or_else(|refusal| refusal.code(), |()| 0);
-    (code, numbers, bits(&depths))
+fn packaged(scene: &Scene) -> Left {
+    let mut layer = scene.layer.clone();
+    let answer = layer.draw(scene, &scene.tri2vtx, scene.first);
+    layer.left(answer)
 }
 
 /// The drawing as C makes it, which the package's is held to.
-fn drawn(scene: &Scene) -> Drawn {
-    let signalling = f32::from_bits(0x7fa1_b2c3);
-    let mut numbers = with_margins(&scene.pix2tri, 0xdead_beef);
-    let mut depths = with_margins(&scene.pix2depth, signalling);
-    let (n, d) = (scene.pix2tri.len(), scene.pix2depth.len());
+fn drawn(scene: &Scene) -> Left {
+    let mark = f32::from_bits(MARK);
+    let mut numbers = with_margins(&scene.layer.pix2tri, MARK);
+    let mut depths = with_margins(&scene.layer.pix2depth, mark);
+    let mut weights = with_margins(&scene.layer.pix2weights, mark);
     let code = called(
         scene,
-        &mut numbers[MARGIN..MARGIN + n],
-        &mut depths[MARGIN..MARGIN + d],
+        inside(&mut numbers),
+        inside(&mut depths),
+        inside(&mut weights),
     );
-    let (inside_n, inside_d) = (
-        numbers[MARGIN..MARGIN + n].to_vec(),
-        bits(&depths[MARGIN..MARGIN + d]),
-    );
-    assert_eq!(
-        numbers,
-        with_margins(&inside_n, 0xdead_beef),
-        "beside the map"
-    );
-    let marked = with_margins(&depths[MARGIN..MARGIN + d], signalling);
-    assert_eq!(bits(&depths), bits(&marked), "beside the depths");
-    let answer = (code, inside_n, inside_d);
+    let buffers = [numbers, bits(&depths), bits(&weights)].map(|mut all| {
+        let buffer = inside(&mut all).to_vec();
+        assert_eq!(all, with_margins(&buffer, MARK), "beside a buffer");
+        buffer
+    });
+    let answer = (code, buffers);
     assert_eq!(packaged(scene), answer, "the package's {scene:?}");
     answer
+}
+
+/// The call changes nothing and answers that code.
+fn leaves_all(scene: &Scene, code: u32) {
+    assert_eq!(drawn(scene), (code, scene.layer.bits()), "{scene:?}");
 }
 
 /// With every facing: no question asks for it.
@@ -126,14 +116,7 @@ fn every_refusal_is_the_first_no_and_writes_nothing() {
             continue;
         }
         for facing in [0, 1, u32::MAX] {
-            let (code, numbers, depths) = drawn(&scene.faced(facing));
-            assert_eq!(code, wanted, "scene {seed}, facing {facing}");
-            assert_eq!(numbers, scene.pix2tri, "map of the refused scene {seed}");
-            assert_eq!(
-                depths,
-                bits(&scene.pix2depth),
-                "depths of the refused scene {seed}"
-            );
+            leaves_all(&scene.faced(facing), wanted);
         }
     }
     for question in [1, 3, 4, 5, 6] {
@@ -144,65 +127,155 @@ fn every_refusal_is_the_first_no_and_writes_nothing() {
     }
 }
 
-/// Beside the listed Rust, and once more over the result: equal depths are never written.
-#[cfg(listed)]
-fn is_drawn_as_listed(scene: &Scene) {
-    let (numbers, depths) = comparison::reference::drawn(scene);
-    let (code, our_numbers, our_depths) = drawn(scene);
-    assert_eq!(code, 0);
-    assert_eq!(our_depths, bits(&depths), "depths of {scene:?}");
-    assert_eq!(our_numbers, numbers, "map of {scene:?}");
-    let again = Scene {
-        pix2tri: numbers.clone(),
-        pix2depth: depths.clone(),
-        first: 0,
-        ..scene.clone()
-    };
-    let twice = drawn(&again);
-    assert_eq!(twice, (0, numbers, bits(&depths)), "twice: {scene:?}");
-}
-
-#[cfg(listed)]
+/// Of scenes that are accepted with three weights a pixel, and of those that another question refuses.
 #[test]
-fn every_scene_is_drawn_as_the_listed_rust_draws_it() {
-    let mut ways = std::collections::BTreeMap::new();
-    let mut accepted = 0;
-    for scene in (0..SCENES).map(scene).filter(|scene| draw_code(scene) == 0) {
-        is_drawn_as_listed(&scene);
-        for way in comparison::reference::ways(&scene) {
-            *ways.entry(way).or_insert(0) += 1;
+fn weights_of_another_length_are_refused_with_4_after_1_and_3() {
+    let mut seen = [0; 10];
+    for seed in 0..SCENES / 10 {
+        let mut scene = scene(seed).faced((seed % 2) as u32);
+        for length in wrong_lengths(scene.layer.pix2weights.len() / 3) {
+            scene.layer.pix2weights = any_weights(&mut Random::new(seed), length);
+            let wanted = draw_code(&scene);
+            seen[wanted as usize] += 1;
+            leaves_all(&scene, wanted);
         }
-        accepted += 1;
     }
-    println!(
-        "{accepted} scenes accepted and compared; faces by their way through the drawing: {ways:?}"
-    );
-    assert!(accepted > 150_000);
-    use comparison::reference::Way::*;
-    let corners = [0, 1, 2];
-    let all = [Unprojectable, Behind, Unclipped, Whole, None].into_iter();
-    for way in all
-        .chain(corners.map(One))
-        .chain(corners.map(|c| Two(c, 2)))
-    {
-        let met = ways.get(&way).copied().unwrap_or(0);
-        assert!(met > 50, "the way {way:?} was hardly met: {met}");
-    }
-    // a NaN among the scores sends a face with no valid corner into two pieces
-    assert!(corners.iter().any(|&c| ways.contains_key(&Two(c, 0))));
+    println!("codes: {seen:?}");
+    assert!(seen[1] > 500 && seen[3] > 500 && seen[4] > 80_000);
+    assert_eq!(seen[1] + seen[3] + seen[4], 5 * SCENES / 10);
 }
 
 #[cfg(listed)]
-#[test]
-fn so_are_crowded_scenes() {
-    for seed in 0..CROWDED {
-        is_drawn_as_listed(&crowded(&mut Random::new(seed)));
+mod all {
+    use super::{drawn, leaves_all, CROWDED, SCENES};
+    use comparison::expected::draw_code;
+    use comparison::layer::{bits, Cell, Layer};
+    use comparison::random::Random;
+    use comparison::reference::{self, Way};
+    use comparison::scene::{crowded, scene, Scene, EMPTY};
+    use std::collections::BTreeMap;
+
+    const CORNERS: [usize; 3] = [0, 1, 2];
+
+    /// What was met.
+    #[derive(Debug, Default)]
+    struct Seen {
+        scenes: usize,
+        faces: BTreeMap<Way, u64>,
+        /// Pixels that were written, by the way of their face through the drawing.
+        written: BTreeMap<Way, u64>,
+        /// Pixels that kept a signalling NaN for a depth, or one among their weights.
+        kept_depths: usize,
+        kept_weights: usize,
+    }
+
+    impl Seen {
+        /// A scene, and the face that was written at each pixel.
+        fn met(&mut self, scene: &Scene, written: &[u32]) {
+            let ways: Vec<Way> = reference::ways(scene).collect();
+            for &way in &ways {
+                *self.faces.entry(way).or_insert(0) += 1;
+            }
+            for (&face, cell) in written.iter().zip(scene.layer.cells()) {
+                match face {
+                    EMPTY => self.met_kept(cell),
+                    face => *self.written.entry(ways[face as usize]).or_insert(0) += 1,
+                }
+            }
+            self.scenes += 1;
+        }
+
+        fn met_kept(&mut self, (_, depth, weights): Cell) {
+            let signalling = |x: &f32| x.is_nan() && x.to_bits() & 0x0040_0000 == 0;
+            self.kept_depths += usize::from(signalling(&depth));
+            self.kept_weights += usize::from(weights.iter().any(signalling));
+        }
+
+        /// Each way was met so often, and so many pixels were written of each that is drawn.
+        fn has_each_way(&self, faces: u64, pixels: u64) {
+            println!("{self:?}");
+            let cut = CORNERS.map(Way::One).into_iter();
+            let cut = cut.chain(CORNERS.map(|corner| Way::Two(corner, 2)));
+            let drawn: Vec<Way> = [Way::Unclipped, Way::Whole]
+                .into_iter()
+                .chain(cut)
+                .collect();
+            let least = |counts: &BTreeMap<Way, u64>, ways: &[Way], least: u64| {
+                for way in ways {
+                    let met = counts.get(way).copied().unwrap_or(0);
+                    assert!(met > least, "the way {way:?} was hardly met: {met}");
+                }
+            };
+            least(&self.faces, &drawn, faces);
+            least(&self.written, &drawn, pixels);
+            let others = [Way::Unprojectable, Way::Behind, Way::None];
+            least(&self.faces, &others, faces);
+        }
+    }
+
+    /// No weight that is written is a NaN: the depth would have been one, which is never greater.
+    fn has_numbers_for_weights(layer: &Layer, written: &[u32]) -> bool {
+        let mut cells = written.iter().zip(layer.cells());
+        cells.all(|(&face, cell)| face == EMPTY || cell.2.iter().all(|b| !b.is_nan()))
+    }
+
+    /// Over the drawing itself, with other weights, nothing is written, as every depth that is greatest is equal; nor is it
+    /// over NaNs, as nothing is greater.
+    fn keeps_equal_depths_and_nans(scene: &Scene, layer: Layer, seed: u64) {
+        let mut again = Scene {
+            layer,
+            first: 0,
+            ..scene.clone()
+        };
+        again.layer.pix2weights = scene.layer.pix2weights.clone();
+        leaves_all(&again, 0);
+        let random = &mut Random::new(seed);
+        again.layer.pix2depth.fill_with(|| random.signalling());
+        leaves_all(&again, 0);
+    }
+
+    /// Beside the listed Rust that keeps the weights, which draws map and depths as the listed file does.
+    fn is_drawn_as_listed(scene: &Scene, seed: u64, seen: &mut Seen) {
+        let reference::Drawn { layer, written } = reference::drawn(scene);
+        let (numbers, depths) = reference::drawn_as_listed(scene);
+        let listed = [numbers, bits(&depths), bits(&layer.pix2weights)];
+        assert_eq!(layer.bits(), listed, "with the weights kept: {scene:?}");
+        assert_eq!(drawn(scene), (0, listed), "{scene:?}");
+        assert!(has_numbers_for_weights(&layer, &written), "{scene:?}");
+        seen.met(scene, &written);
+        keeps_equal_depths_and_nans(scene, layer, seed);
+    }
+
+    #[test]
+    fn every_scene_is_drawn_as_the_listed_rust_draws_it() {
+        let mut seen = Seen::default();
+        for seed in 0..SCENES {
+            let scene = scene(seed);
+            if draw_code(&scene) == 0 {
+                is_drawn_as_listed(&scene, seed, &mut seen);
+            }
+        }
+        seen.has_each_way(50, 1_000);
+        assert!(seen.scenes > 150_000);
+        assert!(seen.kept_depths > 100_000 && seen.kept_weights > 1_000_000);
+        // a NaN among the scores sends a face with no valid corner into two pieces
+        let nowhere = |&corner: &usize| seen.faces.contains_key(&Way::Two(corner, 0));
+        assert!(CORNERS.iter().any(nowhere));
+    }
+
+    #[test]
+    fn so_are_crowded_scenes() {
+        let mut seen = Seen::default();
+        for seed in 0..CROWDED {
+            is_drawn_as_listed(&crowded(&mut Random::new(seed)), seed, &mut seen);
+        }
+        seen.has_each_way(50, 1_000);
     }
 }
 
 #[cfg(listed)]
 mod front {
-    use super::{bits, drawn, SCENES};
+    use super::{drawn, SCENES};
     use comparison::expected::draw_code;
     use comparison::random::Random;
     use comparison::reference::{self, Branch, Candidates};
@@ -224,7 +297,7 @@ mod front {
 
     impl Seen {
         fn met(&mut self, scene: &Scene, all: &[u32], front: &[u32]) {
-            let pixels = || scene.pix2tri.iter().zip(all).zip(front);
+            let pixels = || scene.layer.pix2tri.iter().zip(all).zip(front);
             let hidden = |((old, all), front): ((&u32, &u32), &u32)| front != old && front != all;
             let emptied = |((old, all), front): ((&u32, &u32), &u32)| front == old && front != all;
             self.scenes += 1;
@@ -265,24 +338,17 @@ mod front {
         }
     }
 
-    /// Beside the file that asks each candidate, with either number; and with 0 that file is the one that is listed.
+    /// Beside the file that asks each candidate, with either number; and with 0 that file is the one that asks none.
     fn is_drawn_as_asked(scene: &Scene, seen: &mut Seen) {
-        let ((numbers, depths), candidates) = reference::drawn_facing(&scene.faced(1));
+        let (front, candidates) = reference::drawn_facing(&scene.faced(1));
         for facing in FRONT {
-            let (code, our_numbers, our_depths) = drawn(&scene.faced(facing));
-            assert_eq!(code, 0);
-            assert_eq!(
-                our_depths,
-                bits(&depths),
-                "depths with {facing} of {scene:?}"
-            );
-            assert_eq!(our_numbers, numbers, "map with {facing} of {scene:?}");
+            let ours = drawn(&scene.faced(facing));
+            assert_eq!(ours, (0, front.layer.bits()), "with {facing}: {scene:?}");
         }
-        let (all_numbers, all_depths) = reference::drawn_facing(scene).0;
-        let (listed_numbers, listed_depths) = reference::drawn(scene);
-        assert_eq!(bits(&all_depths), bits(&listed_depths), "all of {scene:?}");
-        assert_eq!(all_numbers, listed_numbers, "all of {scene:?}");
-        seen.met(scene, &all_numbers, &numbers);
+        let all = reference::drawn_facing(scene).0.layer;
+        let listed = reference::drawn(scene).layer;
+        assert_eq!(all.bits(), listed.bits(), "all of {scene:?}");
+        seen.met(scene, &all.pix2tri, &front.layer.pix2tri);
         for (met, count) in candidates {
             *seen.candidates.entry(met).or_insert(0) += count;
         }
@@ -335,7 +401,7 @@ fn widths_and_heights_to_4096() {
     ] {
         let mut scene = scene(1);
         (scene.img_w, scene.img_h, scene.first) = (w, h, 0);
-        (scene.pix2tri, scene.pix2depth) = (vec![3; w * h], vec![0.5; w * h]);
+        scene.layer = std::iter::repeat_n((3, 0.5, [0.25; 3]), w * h).collect();
         scene.tri2vtx.clear();
         scene.vtx2xyz.clear();
         assert_eq!(drawn(&scene).0, wanted, "{w} × {h}");
@@ -346,7 +412,7 @@ fn widths_and_heights_to_4096() {
 fn counts_to_1048576() {
     let mut scene = scene(1);
     (scene.img_w, scene.img_h, scene.first) = (1, 1, 0);
-    (scene.pix2tri, scene.pix2depth) = (vec![3], vec![0.5]);
+    scene.layer = [(3, 0.5, [0.25; 3])].into_iter().collect();
     scene.tri2vtx.clear();
     scene.vtx2xyz = vec![0.0; 3 * MOST as usize];
     assert_eq!(drawn(&scene).0, 0, "as many vertices");

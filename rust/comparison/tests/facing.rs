@@ -1,48 +1,25 @@
 //! Which way round is front, by the geometry of the mesh alone: of closed bodies under the usual matrices and their mirror images,
 //! and of faces that the near plane cuts.
+use comparison::cut::{cross, cut_face, dot, minus, perspective, Cut, Vec3};
 use comparison::random::Random;
 use comparison::scene::EMPTY;
-use paqelzim::Facing;
+use paqelzim::{Facing, Layer};
 use std::collections::BTreeMap;
 
 const SIDE: usize = 48;
 
-type Vec3 = [f64; 3];
-
-fn minus(a: Vec3, b: Vec3) -> Vec3 {
-    std::array::from_fn(|k| a[k] - b[k])
-}
-
-fn cross(a: Vec3, b: Vec3) -> Vec3 {
-    [
-        a[1] * b[2] - a[2] * b[1],
-        a[2] * b[0] - a[0] * b[2],
-        a[0] * b[1] - a[1] * b[0],
-    ]
-}
-
-fn dot(a: Vec3, b: Vec3) -> f64 {
-    a[0] * b[0] + a[1] * b[1] + a[2] * b[2]
-}
-
-/// The map of the faces on a clear layer.
-fn map(tri2vtx: &[u32], vtx2xyz: &[Vec3], matrix: &[f32; 16], facing: Facing) -> Vec<u32> {
-    let mut pix2tri = vec![EMPTY; SIDE * SIDE];
-    let mut pix2depth = vec![f32::NEG_INFINITY; SIDE * SIDE];
+/// The faces on a clear layer.
+fn drawn(tri2vtx: &[u32], vtx2xyz: &[Vec3], matrix: &[f32; 16], facing: Facing) -> Layer {
+    let mut layer = Layer::new(SIDE, SIDE).expect("accepted");
     let xyz: Vec<f32> = vtx2xyz.as_flattened().iter().map(|&x| x as f32).collect();
-    paqelzim::pix2tri_by_rasterization(
-        &mut pix2tri,
-        &mut pix2depth,
-        tri2vtx,
-        &xyz,
-        SIDE,
-        SIDE,
-        matrix,
-        0,
-        facing,
-    )
-    .expect("accepted");
-    pix2tri
+    let answer = layer.draw(tri2vtx, &xyz, matrix, 0, facing);
+    answer.expect("accepted");
+    layer
+}
+
+/// Its map.
+fn map(tri2vtx: &[u32], vtx2xyz: &[Vec3], matrix: &[f32; 16], facing: Facing) -> Vec<u32> {
+    drawn(tri2vtx, vtx2xyz, matrix, facing).map().to_vec()
 }
 
 /// A cube, turned any way and moved, its twelve faces counter-clockwise as seen from outside.
@@ -81,17 +58,6 @@ type View = ([f32; 16], Option<Vec3>);
 /// Where a cube is seen whole.
 fn place(camera: Option<Vec3>) -> Vec3 {
     camera.map_or([0.0; 3], |_| [0.1, -0.2, -3.0])
-}
-
-/// A camera at the origin that looks along −z from `near` on, x to the right and y up, whose divisor is t11·z: OpenGL's with −1, that
-/// of the fit with 1. Depth is t11 at `near`.
-fn perspective(t11: f32, near: f32) -> [f32; 16] {
-    let (focal, far) = (1.5, 8.0);
-    let mut matrix = [0.0; 16];
-    (matrix[0], matrix[5], matrix[11]) = (-t11 * focal, -t11 * focal, t11);
-    matrix[10] = -(far + near) / (far - near);
-    matrix[14] = -2.0 * far * near / (far - near);
-    matrix
 }
 
 /// The identity, OpenGL's perspective, the fit's.
@@ -191,31 +157,6 @@ fn all_faces_show_the_near_side_but_under_opengl_s_matrix_the_far_one() {
     assert!(held > 200_000 && apart < 50);
 }
 
-/// The lone corner, whether it is beyond the near plane, and whether the face runs clockwise.
-type Cut = (usize, bool, bool);
-
-/// A face with one corner alone on its side of the near plane, which is at 1, and none close to that; or nothing where it is seen almost
-/// edge on.
-fn cut_face(random: &mut Random) -> Option<(Cut, [Vec3; 3])> {
-    let (lone, beyond) = (random.below(3), random.percent(50));
-    let corners: [Vec3; 3] = std::array::from_fn(|k| {
-        let z = if (k == lone) == beyond {
-            random.between(1.3, 3.0)
-        } else {
-            random.between(0.3, 0.8)
-        };
-        [
-            random.between(-1.0, 1.0) * z,
-            random.between(-1.0, 1.0) * z,
-            -z,
-        ]
-        .map(f64::from)
-    });
-    let seen = corners.map(|[x, y, z]| [x / -z, y / -z, 0.0]);
-    let area = cross(minus(seen[1], seen[0]), minus(seen[2], seen[0]))[2];
-    (area.abs() > 0.2).then_some(((lone, beyond, area < 0.0), corners))
-}
-
 /// In how many pieces the face is drawn.
 fn pieces(corners: &[Vec3; 3], matrix: &[f32; 16]) -> u64 {
     let xyz: Vec<f32> = corners.as_flattened().iter().map(|&x| x as f32).collect();
@@ -226,6 +167,7 @@ fn pieces(corners: &[Vec3; 3], matrix: &[f32; 16]) -> u64 {
 #[test]
 fn a_face_that_is_cut_faces_as_it_does_whole() {
     let mut met: BTreeMap<Cut, usize> = BTreeMap::new();
+    let clear = Layer::new(SIDE, SIDE).expect("accepted");
     for seed in 0..6_000 {
         let random = &mut Random::new(seed);
         let Some((cut, corners)) = cut_face(random) else {
@@ -233,15 +175,11 @@ fn a_face_that_is_cut_faces_as_it_does_whole() {
         };
         let matrix = perspective(random.one_of(&[-1.0, 1.0]), 1.0);
         assert_eq!(pieces(&corners, &matrix), if cut.1 { 1 } else { 2 });
-        let all = map(&[0, 1, 2], &corners, &matrix, Facing::All);
-        let front = map(&[0, 1, 2], &corners, &matrix, Facing::Front);
-        let wanted = if cut.2 {
-            all.clone()
-        } else {
-            vec![EMPTY; SIDE * SIDE]
-        };
-        assert_eq!(front, wanted, "{cut:?}, seed {seed}");
-        if all.contains(&0) {
+        let all = drawn(&[0, 1, 2], &corners, &matrix, Facing::All);
+        let front = drawn(&[0, 1, 2], &corners, &matrix, Facing::Front);
+        let wanted = if cut.2 { &all } else { &clear };
+        assert_eq!(&front, wanted, "{cut:?}, seed {seed}");
+        if all.map().contains(&0) {
             *met.entry(cut).or_insert(0) += 1;
         }
     }

@@ -175,21 +175,12 @@ mod listed {
 
     /// The pixels that the mesh covers, drawn by the library on a clear layer with the scene's facing.
     fn covered(scene: &Scene) -> u64 {
-        let mut numbers = vec![EMPTY; scene.img_w * scene.img_h];
-        let mut depths = vec![f32::NEG_INFINITY; numbers.len()];
-        paqelzim::pix2tri_by_rasterization(
-            &mut numbers,
-            &mut depths,
-            &scene.tri2vtx,
-            &scene.vtx2xyz,
-            scene.img_w,
-            scene.img_h,
-            &scene.transform_world2ndc,
-            0,
-            scene.facing(),
-        )
-        .expect("what has a load can be drawn");
-        numbers.iter().filter(|&&number| number != EMPTY).count() as u64
+        let mut layer = paqelzim::Layer::new(scene.img_w, scene.img_h).expect("accepted");
+        let (xyz, matrix) = (&scene.vtx2xyz, &scene.transform_world2ndc);
+        layer
+            .draw(&scene.tri2vtx, xyz, matrix, 0, scene.facing())
+            .expect("what has a load can be drawn");
+        layer.map().iter().filter(|&&entry| entry != EMPTY).count() as u64
     }
 
     #[test]

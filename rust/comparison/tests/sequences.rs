@@ -1,7 +1,9 @@
 //! Demand 3, executed: faces that hold no pixel are taken out, the rest is cut into runs, each run's layer is cleared
-//! and drawn, and neighbours are joined in any bracketing, refused calls among them. What remains has the full
-//! drawing's depth bits and, renumbered, its map; and every pass over it gives the same code and the same bits. So it is with
-//! front pieces only, where the whole drawing and all runs have that facing.
+//! and drawn, and neighbours are joined in any bracketing, refused calls among them. What remains has the bits of the full
+//! drawing's depths and weights and, renumbered, its map; and every pass over it gives the same code and the same bits. So it is
+//! with front pieces only, where the whole drawing and all runs have that facing.
+use comparison::expected::cleared;
+use comparison::layer::{bits, wrong_lengths, Layer};
 use comparison::pass::{beside_the_map, Pass};
 use comparison::random::Random;
 use comparison::scene::{accepted, crowded, Scene, EMPTY};
@@ -10,41 +12,32 @@ use paqelzim::Refusal;
 const CASES: u64 = 20_000;
 const CROWDED: u64 = 5_000;
 
-#[derive(Clone)]
-struct Layer {
-    pix2tri: Vec<u32>,
-    pix2depth: Vec<f32>,
-}
-
-fn bits(floats: &[f32]) -> Vec<u32> {
-    floats.iter().map(|x| x.to_bits()).collect()
-}
-
-fn clear(layer: &mut Layer, scene: &Scene) {
-    let (w, h) = (scene.img_w, scene.img_h);
-    paqelzim::clear(&mut layer.pix2tri, &mut layer.pix2depth, w, h).expect("accepted");
-}
-
-fn draw(layer: &mut Layer, scene: &Scene, faces: &[u32], first: usize) -> Result<(), Refusal> {
-    paqelzim::pix2tri_by_rasterization(
-        &mut layer.pix2tri,
-        &mut layer.pix2depth,
-        faces,
-        &scene.vtx2xyz,
-        scene.img_w,
-        scene.img_h,
-        &scene.transform_world2ndc,
-        first as u32,
-        scene.facing(),
-    )
-}
-
 /// A layer that holds anything.
 fn garbage(random: &mut Random, pixels: usize) -> Layer {
-    Layer {
-        pix2tri: (0..pixels).map(|_| random.bits() as u32).collect(),
-        pix2depth: (0..pixels).map(|_| random.hostile()).collect(),
+    Layer::any(random, [pixels, pixels, 3 * pixels])
+}
+
+/// A call that is refused for its weights alone: those of one layer are too few or too many, and are kept too.
+fn refused_for_weights(
+    random: &mut Random,
+    layer: &mut Layer,
+    scene: &Scene,
+) -> Result<(), Refusal> {
+    let (w, h) = (scene.img_w, scene.img_h);
+    let length = random.one_of(&wrong_lengths(w * h));
+    let wrong = Layer::any(random, [w * h, w * h, length]);
+    if random.percent(25) {
+        return layer.join(&wrong, w, h);
     }
+    let own = std::mem::replace(&mut layer.pix2weights, wrong.pix2weights.clone());
+    let answer = match random.below(3) {
+        0 => layer.clear(w, h),
+        1 => layer.draw(scene, &scene.tri2vtx, 0),
+        _ => layer.join(&garbage(random, w * h), w, h),
+    };
+    let lent = std::mem::replace(&mut layer.pix2weights, own);
+    assert_eq!(bits(&lent), bits(&wrong.pix2weights), "written: {answer:?}");
+    answer
 }
 
 /// A call that is refused, of any kind, on some layer; false where that layer is gone.
@@ -55,15 +48,15 @@ fn refused(random: &mut Random, layers: &mut [Option<Layer>], scene: &Scene) -> 
     };
     let (w, h) = (scene.img_w, scene.img_h);
     let scene = &scene.faced(random.one_of(&[0, 1]));
-    let answer = match random.below(5) {
-        0 => paqelzim::clear(&mut layer.pix2tri, &mut layer.pix2depth, w + 1, h),
-        1 => paqelzim::clear(&mut layer.pix2tri, &mut layer.pix2depth, 4097, h),
-        2 => draw(layer, scene, &[0, 0], 0),
-        3 => draw(layer, scene, &[0, 0, scene.vtx2xyz.len() as u32], 0),
-        _ => {
-            let (tri, depth) = (&mut layer.pix2tri, &mut layer.pix2depth);
-            paqelzim::join(tri, depth, &[], &[], w, h)
-        }
+    let kind = random.below(5);
+    let beside = &mut random.beside();
+    let answer = match kind {
+        _ if beside.percent(40) => refused_for_weights(beside, layer, scene),
+        0 => layer.clear(w + 1, h),
+        1 => layer.clear(4097, h),
+        2 => layer.draw(scene, &[0, 0], 0),
+        3 => layer.draw(scene, &[0, 0, scene.vtx2xyz.len() as u32], 0),
+        _ => layer.join(&cleared(0), w, h),
     };
     answer.expect_err("a refused call");
     true
@@ -86,9 +79,9 @@ fn runs(random: &mut Random, kept: &[u32], cuts: usize) -> Vec<Run> {
 
 /// Clears and draws every run's layer and joins neighbours until one remains, in any sequence.
 fn assembled(random: &mut Random, scene: &Scene, runs: &[Run], seen: &mut Seen) -> Layer {
-    let pixels = scene.img_w * scene.img_h;
+    let (w, h) = (scene.img_w, scene.img_h);
     let mut layers: Vec<Option<Layer>> =
-        runs.iter().map(|_| Some(garbage(random, pixels))).collect();
+        runs.iter().map(|_| Some(garbage(random, w * h))).collect();
     // 0 as it was, 1 cleared, 2 drawn or joined, 3 gone into its left neighbour
     let mut state = vec![0; runs.len()];
     while state.iter().filter(|&&s| s != 3).count() > 1 || state[0] != 2 {
@@ -97,20 +90,18 @@ fn assembled(random: &mut Random, scene: &Scene, runs: &[Run], seen: &mut Seen) 
         }
         let at = random.below(runs.len());
         match state[at] {
-            0 => clear(layers[at].as_mut().unwrap(), scene),
+            0 => layers[at].as_mut().unwrap().clear(w, h).expect("accepted"),
             1 => {
                 let (first, faces) = &runs[at];
-                draw(layers[at].as_mut().unwrap(), scene, faces, *first).expect("accepted");
+                let layer = layers[at].as_mut().unwrap();
+                layer.draw(scene, faces, *first as u32).expect("accepted");
             }
             2 => {
                 let next = (at + 1..runs.len()).find(|&i| state[i] != 3);
                 if let Some(next) = next.filter(|&i| state[i] == 2) {
                     let right = layers[next].take().unwrap();
                     let left = layers[at].as_mut().unwrap();
-                    let (tri, depth) = (&mut left.pix2tri, &mut left.pix2depth);
-                    let (w, h) = (scene.img_w, scene.img_h);
-                    paqelzim::join(tri, depth, &right.pix2tri, &right.pix2depth, w, h)
-                        .expect("accepted");
+                    left.join(&right, w, h).expect("accepted");
                     state[next] = 3;
                 }
                 continue;
@@ -229,8 +220,8 @@ struct Seen {
 /// The full drawing.
 fn drawn_whole(random: &mut Random, scene: &Scene) -> Layer {
     let mut full = garbage(random, scene.img_w * scene.img_h);
-    clear(&mut full, scene);
-    draw(&mut full, scene, &scene.tri2vtx, 0).expect("accepted");
+    full.clear(scene.img_w, scene.img_h).expect("accepted");
+    full.draw(scene, &scene.tri2vtx, 0).expect("accepted");
     full
 }
 
@@ -293,8 +284,9 @@ fn case(random: &mut Random, scene: &Scene, cuts: usize, seen: &mut Seen) {
     let last = assembled(random, scene, &runs, seen);
     let seed = seen.seed;
     assert_eq!(last.pix2tri, renumbered, "map of seed {seed}");
-    let (got, wanted) = (bits(&last.pix2depth), bits(&full.pix2depth));
-    assert_eq!(got, wanted, "depths of seed {seed}");
+    let floats = |layer: &Layer| [bits(&layer.pix2depth), bits(&layer.pix2weights)];
+    let (got, wanted) = (floats(&last), floats(&full));
+    assert_eq!(got, wanted, "depths and weights of seed {seed}");
     seen.cases += 1;
     seen.runs += runs.len();
     seen.faces += scene.tri2vtx.len() / 3;

@@ -1,26 +1,28 @@
 //! The pictures that the example writes, each pixel shown as a square of several.
 use crate::housing::CHANNELS;
 use crate::png;
-use crate::scene::{Scene, Seen};
+use crate::scene::{Scene, Seen, BACKGROUND, EMPTY};
 use crate::skins::Skins;
+use paqelzim::Layer;
 use std::error::Error;
 use std::path::Path;
 
 const SQUARE: usize = 4;
 
-/// Target, start, fitted, and the start's edge gradients.
+/// Target, start, fitted, the start's edge gradients, and the fitted weights.
 pub fn write(
     folder: &Path,
     scene: &Scene,
     before: &Seen,
     after: &Seen,
 ) -> Result<(), Box<dyn Error>> {
-    let edges = edges(scene, before)?;
+    let (edges, weights) = (edges(scene, before)?, weights(&after.layer));
     for (name, values) in [
         ("target", &scene.target),
         ("start", &before.pix2val),
         ("fitted", &after.pix2val),
         ("edge-gradients", &edges),
+        ("weights", &weights),
     ] {
         let img_w = scene.camera.img_w;
         let rgb = squares(img_w, &coloured(values));
@@ -41,6 +43,14 @@ pub fn write_skins(folder: &Path, scene: &Scene, skins: &Skins) -> Result<(), Bo
     let rgb = squares(img_w, &coloured(&values));
     png::write(&folder.join("facing.png"), SQUARE * img_w, &rgb)?;
     Ok(())
+}
+
+/// Where in its face each pixel lies, as red, green and blue: the nearer to the first, second or third corner, the purer. The
+/// near plane cuts none of these faces, so the weights are of their own corners.
+fn weights(layer: &Layer) -> Vec<f32> {
+    let pixels = layer.map().iter().zip(layer.weights());
+    let colour = |(&face, &weights)| if face == EMPTY { BACKGROUND } else { weights };
+    pixels.flat_map(colour).collect()
 }
 
 /// Bytes, with the screen's own brightness curve.
@@ -74,7 +84,7 @@ fn edges(scene: &Scene, seen: &Seen) -> Result<Vec<f32>, Box<dyn Error>> {
         &scene.camera.world2pix,
         img_w,
         img_h,
-        &seen.layer.pix2tri,
+        seen.layer.map(),
         CHANNELS,
         &seen.pix2val,
         &seen.dldw_pix2val,

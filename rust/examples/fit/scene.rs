@@ -2,10 +2,10 @@
 use crate::camera::Camera;
 use crate::housing::{Housing, CHANNELS};
 use crate::pose::Pose;
-use paqelzim::{DrawingLoad, Facing, Refusal};
+use paqelzim::{DrawingLoad, Facing, Layer, Refusal};
 
-const EMPTY: u32 = u32::MAX;
-const BACKGROUND: [f32; CHANNELS] = [0.06, 0.07, 0.09];
+pub const EMPTY: u32 = u32::MAX;
+pub const BACKGROUND: [f32; CHANNELS] = [0.06, 0.07, 0.09];
 
 /// How a mesh is drawn: without some of its faces, and in one go or in runs that are joined.
 #[derive(Default)]
@@ -34,13 +34,6 @@ impl Way {
         }
         number - self.removed.partition_point(|&r| r < number) as u32
     }
-}
-
-/// A map of face numbers and the depths.
-#[derive(Clone)]
-pub struct Layer {
-    pub pix2tri: Vec<u32>,
-    pub pix2depth: Vec<f32>,
 }
 
 /// What one iteration sees.
@@ -96,7 +89,7 @@ impl Scene {
         } else {
             self.drawn(&tri2vtx, &vtx2xyz, 0, Facing::All)?
         };
-        let pix2val = self.values(&tri2vtx, &vtx2xyz, &layer.pix2tri)?;
+        let pix2val = self.values(&tri2vtx, &vtx2xyz, layer.map())?;
         let (residual, dldw_pix2val) = self.difference(&pix2val);
         let mut seen = Seen {
             layer,
@@ -139,7 +132,7 @@ impl Scene {
         paqelzim::interpolate_bwd(
             img_w,
             img_h,
-            &seen.layer.pix2tri,
+            seen.layer.map(),
             tri2vtx,
             &seen.vtx2xyz,
             CHANNELS,
@@ -156,7 +149,7 @@ impl Scene {
             &self.camera.world2pix,
             img_w,
             img_h,
-            &seen.layer.pix2tri,
+            seen.layer.map(),
             CHANNELS,
             &seen.pix2val,
             &seen.dldw_pix2val,
@@ -170,7 +163,7 @@ impl Scene {
         kept.flat_map(|(corners, _)| corners).copied().collect()
     }
 
-    /// A layer, whatever it held, cleared and drawn with faces numbered from `first` on.
+    /// A clear layer, drawn with faces numbered from `first` on.
     pub fn drawn(
         &self,
         tri2vtx: &[u32],
@@ -178,25 +171,9 @@ impl Scene {
         first: usize,
         facing: Facing,
     ) -> Result<Layer, Refusal> {
-        let Camera { img_w, img_h, .. } = self.camera;
-        let mut layer = Layer {
-            pix2tri: vec![7; self.camera.num_pix()],
-            pix2depth: vec![1e30; self.camera.num_pix()],
-        };
-        let (pix2tri, pix2depth) = (&mut layer.pix2tri, &mut layer.pix2depth);
-        paqelzim::clear(pix2tri, pix2depth, img_w, img_h)?;
+        let mut layer = Layer::new(self.camera.img_w, self.camera.img_h)?;
         let world2ndc = &self.camera.world2ndc;
-        paqelzim::pix2tri_by_rasterization(
-            pix2tri,
-            pix2depth,
-            tri2vtx,
-            vtx2xyz,
-            img_w,
-            img_h,
-            world2ndc,
-            first as u32,
-            facing,
-        )?;
+        layer.draw(tri2vtx, vtx2xyz, world2ndc, first as u32, facing)?;
         Ok(layer)
     }
 
@@ -215,26 +192,13 @@ impl Scene {
         };
         let (mut a, mut b, c) = (run(0, one)?, run(one, two)?, run(two, num_tri)?);
         if iteration % 2 == 0 {
-            self.join(&mut a, &b)?;
-            self.join(&mut a, &c)?;
+            a.join(&b)?;
+            a.join(&c)?;
         } else {
-            self.join(&mut b, &c)?;
-            self.join(&mut a, &b)?;
+            b.join(&c)?;
+            a.join(&b)?;
         }
         Ok(a)
-    }
-
-    fn join(&self, left: &mut Layer, right: &Layer) -> Result<(), Refusal> {
-        let Camera { img_w, img_h, .. } = self.camera;
-        let (pix2tri, pix2depth) = (&mut left.pix2tri, &mut left.pix2depth);
-        paqelzim::join(
-            pix2tri,
-            pix2depth,
-            &right.pix2tri,
-            &right.pix2depth,
-            img_w,
-            img_h,
-        )
     }
 
     /// The residual, and the gradient of half the mean square.
@@ -257,22 +221,28 @@ impl Scene {
 impl Seen {
     /// How many numbers of the whole drawing's were compared, all of the same bits; or which are not.
     pub fn compared(&self, whole: &Seen, way: &Way) -> Result<usize, String> {
-        let expected = whole.layer.pix2tri.iter().map(|&n| way.renumbered(n));
-        if !expected.eq(self.layer.pix2tri.iter().copied()) {
+        let expected = whole.layer.map().iter().map(|&n| way.renumbered(n));
+        if !expected.eq(self.layer.map().iter().copied()) {
             return Err("the maps differ".into());
         }
-        let mut numbers = self.layer.pix2tri.len();
-        for (what, a, b) in [
-            ("depths", &self.layer.pix2depth, &whole.layer.pix2depth),
-            ("values", &self.pix2val, &whole.pix2val),
-            ("vertex gradients", &self.dldw_vtx2xyz, &whole.dldw_vtx2xyz),
-            ("value gradients", &self.dldw_vtx2val, &whole.dldw_vtx2val),
-        ] {
+        let mut numbers = self.layer.map().len();
+        for ((what, a), (_, b)) in self.floats().into_iter().zip(whole.floats()) {
             if a.len() != b.len() || a.iter().zip(b).any(|(x, y)| x.to_bits() != y.to_bits()) {
                 return Err(format!("the {what} differ"));
             }
             numbers += a.len();
         }
         Ok(numbers)
+    }
+
+    /// What is compared bit for bit.
+    fn floats(&self) -> [(&str, &[f32]); 5] {
+        [
+            ("depths", self.layer.depths()),
+            ("weights", self.layer.weights().as_flattened()),
+            ("values", &self.pix2val),
+            ("vertex gradients", &self.dldw_vtx2xyz),
+            ("value gradients", &self.dldw_vtx2val),
+        ]
     }
 }

@@ -1,10 +1,9 @@
 //! The housing turned over before the camera, its foot open, with and without its inner skin. With all faces that is seen from
 //! behind and hides the pins; front pieces only leave out what is turned away, the inside of the outer skin too.
 use crate::pose::Pose;
-use crate::scene::Scene;
+use crate::scene::{Scene, EMPTY};
 use paqelzim::{Facing, Refusal};
 
-const EMPTY: u32 = u32::MAX;
 /// Turned over about its middle, so that the open foot is seen at a slant.
 const OVER: [f64; 6] = [0.0, -2.3, 3.9, -2.6, 0.25, 0.3];
 
@@ -21,7 +20,7 @@ impl Skins {
     pub fn new(scene: &Scene) -> Result<Self, Refusal> {
         let (tri2vtx, tri2inner) = scene.housing.open_and_clockwise();
         let vtx2xyz = Pose::seated().moved(&OVER).placed(&scene.housing.points);
-        let map = |facing| Ok(scene.drawn(&tri2vtx, &vtx2xyz, 0, facing)?.pix2tri);
+        let map = |facing| Ok(scene.drawn(&tri2vtx, &vtx2xyz, 0, facing)?.map().to_vec());
         let (all, front) = (map(Facing::All)?, map(Facing::Front)?);
         Ok(Skins {
             tri2vtx,

@@ -75,21 +75,52 @@ static void nans(void) {
     }
 }
 
+static int all_are(const float *x, size_t count, uint32_t bits) {
+    size_t i;
+    for (i = 0; i < count; i += 1) {
+        if (bits_of(x[i]) != bits) {
+            return 0;
+        }
+    }
+    return 1;
+}
+
+static void fill(float *x, size_t count, uint32_t bits) {
+    size_t i;
+    for (i = 0; i < count; i += 1) {
+        x[i] = float_of(bits);
+    }
+}
+
+/* 2 x 1: a NaN beside a number, and a depth below the right one. The weights go with the depth, payloads too. */
 static void layers(void) {
     uint32_t left[2] = {5, 6}, right[2] = {7, 8};
-    float left_depth[2], right_depth[2];
+    float left_depth[2], right_depth[2], left_weights[6], right_weights[6];
     left_depth[0] = float_of(0x7fa00001u);
     left_depth[1] = 0.25f;
     right_depth[0] = 1.0f;
     right_depth[1] = 0.5f;
-    expect(paqelzim_join(left, 2, left_depth, 2, right, 2, right_depth, 1, 2, 1) == 4, "a right layer one short");
-    expect(paqelzim_join(left, 2, left_depth, 2, right, 2, right_depth, 2, 2, 1) == 0, "joined");
+    fill(left_weights, 6, 0xffa00003u);
+    fill(right_weights, 6, 0x7fa00005u);
+    expect(paqelzim_join(left, 2, left_depth, 2, left_weights, 6, right, 2, right_depth, 1, right_weights, 6, 2, 1) == 4,
+           "a right depth short");
+    expect(paqelzim_join(left, 2, left_depth, 2, left_weights, 5, right, 2, right_depth, 2, right_weights, 6, 2, 1) == 4,
+           "a left weight short");
+    expect(paqelzim_join(left, 2, left_depth, 2, left_weights, 6, right, 2, right_depth, 2, right_weights, 2, 2, 1) == 4,
+           "a right weight for each pixel");
+    expect(left[1] == 6 && left_depth[1] == 0.25f, "a refused join writes nothing");
+    expect(all_are(left_weights, 6, 0xffa00003u), "nor any weight");
+    expect(paqelzim_join(left, 2, left_depth, 2, left_weights, 6, right, 2, right_depth, 2, right_weights, 6, 2, 1) == 0, "joined");
     expect(left[0] == 5 && bits_of(left_depth[0]) == 0x7fa00001u, "a NaN stays, with its number and payload");
+    expect(all_are(left_weights, 3, 0xffa00003u), "and its weights, with theirs");
     expect(left[1] == 8 && left_depth[1] == 0.5f, "the greater depth is taken");
-    expect(paqelzim_clear(left, 2, left_depth, 2, 4097, 1) == 1, "too wide");
-    expect(left[1] == 8 && left_depth[1] == 0.5f, "a refusal writes nothing");
-    expect(paqelzim_clear(left, 2, left_depth, 2, 1, 2) == 0, "cleared");
+    expect(all_are(left_weights + 3, 3, 0x7fa00005u), "and its weights");
+    expect(paqelzim_clear(left, 2, left_depth, 2, left_weights, 6, 4097, 1) == 1, "too wide");
+    expect(paqelzim_clear(left, 2, left_depth, 2, left_weights, 2, 1, 2) == 4, "a weight for each pixel");
+    expect(left[1] == 8 && left_depth[1] == 0.5f && all_are(left_weights + 3, 3, 0x7fa00005u), "a refusal writes nothing");
+    expect(paqelzim_clear(left, 2, left_depth, 2, left_weights, 6, 1, 2) == 0, "cleared");
     expect(left[0] == 4294967295u && bits_of(left_depth[1]) == 0xff800000u, "empty");
+    expect(all_are(left_weights, 6, 0u), "six zeros, none of them -0");
 }
 
 static const uint32_t face[3] = {0, 1, 2};
@@ -160,53 +191,114 @@ static void velocities(void) {
     expect(velocity[0] == 3.0f && velocity[1] == 3.0f, "velocity 3");
 }
 
-/* T(0.25) on a clear layer of 2 x 2; a face that names vertex 3 of three. */
-static void drawing(void) {
-    const uint32_t bad[3] = {0, 1, 3};
-    uint32_t pix2tri[4];
-    float pix2depth[4];
-    int p;
-    expect(paqelzim_clear(pix2tri, 4, pix2depth, 4, 2, 2) == 0, "cleared");
-    expect(paqelzim_pix2tri_by_rasterization(pix2tri, 4, pix2depth, 4, bad, 3, corners, 9, 2, 2, identity, 0, 0) == 6, "names 3");
-    expect(pix2tri[0] == 4294967295u, "a refused drawing writes nothing");
-    expect(paqelzim_pix2tri_by_rasterization(pix2tri, 4, pix2depth, 4, face, 3, corners, 9, 2, 2, identity, 7, 0) == 0, "drawn");
-    for (p = 0; p < 4; p += 1) {
-        expect(pix2tri[p] == 7 && pix2depth[p] == 0.25f, "four pixels");
-    }
+static int weights_are(const float *x, float b0, float b1, float b2) { return x[0] == b0 && x[1] == b1 && x[2] == b2; }
+
+/* A layer of 2 x 2. */
+typedef struct {
+    uint32_t tri[4];
+    float depth[4];
+    float weights[12];
+} Layer;
+
+static void cleared(Layer *layer) {
+    expect(paqelzim_clear(layer->tri, 4, layer->depth, 4, layer->weights, 12, 2, 2) == 0, "cleared");
 }
 
-/* The face alone on a clear layer of 2 x 2, which it covers or leaves clear. */
-static void faced(const uint32_t *corner, uint32_t facing, int drawn, const char *what) {
-    uint32_t pix2tri[4];
-    float pix2depth[4];
+/* Draws faces with the corners of T(0.25). */
+static uint32_t drawn(Layer *layer, const uint32_t *tri2vtx, size_t tri2vtx_len, uint32_t first, uint32_t facing) {
+    return paqelzim_pix2tri_by_rasterization(layer->tri, 4, layer->depth, 4, layer->weights, 12, tri2vtx, tri2vtx_len,
+                                             corners, 9, 2, 2, identity, first, facing);
+}
+
+/* T(0.25) on a clear layer; a face that names vertex 3 of three; weights one short. */
+static void drawing(void) {
+    const uint32_t bad[3] = {0, 1, 3}, turned[3] = {1, 2, 0};
+    Layer layer;
     int p;
-    expect(paqelzim_clear(pix2tri, 4, pix2depth, 4, 2, 2) == 0, "cleared");
-    expect(paqelzim_pix2tri_by_rasterization(pix2tri, 4, pix2depth, 4, corner, 3, corners, 9, 2, 2, identity, 7, facing) == 0, what);
+    cleared(&layer);
+    expect(drawn(&layer, bad, 3, 0, 0) == 6, "names 3");
+    expect(paqelzim_pix2tri_by_rasterization(layer.tri, 4, layer.depth, 4, layer.weights, 11, face, 3,
+                                             corners, 9, 2, 2, identity, 0, 0) == 4, "weights one short");
+    expect(layer.tri[0] == 4294967295u && all_are(layer.weights, 12, 0u), "a refused drawing writes nothing");
+    expect(drawn(&layer, face, 3, 7, 0) == 0, "drawn");
     for (p = 0; p < 4; p += 1) {
-        expect(pix2tri[p] == (drawn ? 7u : 4294967295u), what);
-        expect(bits_of(pix2depth[p]) == (drawn ? 0x3e800000u : 0xff800000u), what);
+        expect(layer.tri[p] == 7 && layer.depth[p] == 0.25f, "four pixels");
     }
+    expect(weights_are(layer.weights, 0.5f, 0.125f, 0.375f), "weights of the first pixel");
+    expect(weights_are(layer.weights + 3, 0.25f, 0.375f, 0.375f), "of the second");
+    expect(weights_are(layer.weights + 6, 0.75f, 0.125f, 0.125f), "of the third");
+    expect(weights_are(layer.weights + 9, 0.5f, 0.375f, 0.125f), "of the last");
+    /* the same corners in another order bring an equal depth, which is not greater */
+    expect(drawn(&layer, turned, 3, 8, 0) == 0, "drawn once more");
+    expect(layer.tri[0] == 7 && weights_are(layer.weights, 0.5f, 0.125f, 0.375f), "an equal depth leaves the weights");
+}
+
+/* One face on a clear layer of 2 x 1, seen by a camera that looks along -z from its near plane at z = -1 on. */
+static void cut_face(const uint32_t *corner, const float *vtx2xyz, float *pix2weights) {
+    const float camera[16] = {1, 0, 0, 0, 0, 1, 0, 0, 0, 0, -3, -1, 0, 0, -4, 0};
+    uint32_t pix2tri[2];
+    float pix2depth[2];
+    expect(paqelzim_clear(pix2tri, 2, pix2depth, 2, pix2weights, 6, 2, 1) == 0, "cleared");
+    expect(paqelzim_pix2tri_by_rasterization(pix2tri, 2, pix2depth, 2, pix2weights, 6, corner, 3, vtx2xyz, 9, 2, 1,
+                                             camera, 0, 0) == 0, "a cut face drawn");
+    expect(pix2tri[0] == 0 && pix2tri[1] == 0, "on both pixels");
+}
+
+/* Edges are cut halfway. Vertex 0 alone is beyond the plane, whichever corner of the face it is: one piece, with vertex 0
+ * first. Over the vertices themselves the first pixel's weights would be 29/32, 1/32 and 2/32. Then vertices 0 and 1 are
+ * beyond it: two pieces, with a pixel in each. */
+static void cut(void) {
+    const float one[9] = {-1.5f, -1.5f, -1.5f, 7.5f, -0.5f, -0.5f, -0.5f, 7.5f, -0.5f};
+    const float two[9] = {-3.75f, -1.5f, -1.5f, 2.25f, -1.5f, -1.5f, -0.25f, 3.5f, -0.5f};
+    const uint32_t lone[3][3] = {{0, 1, 2}, {1, 0, 2}, {1, 2, 0}};
+    float pix2weights[6];
+    int k;
+    for (k = 0; k < 3; k += 1) {
+        cut_face(lone[k], one, pix2weights);
+        expect(weights_are(pix2weights, 0.625f, 0.125f, 0.25f), "of the one piece's corners");
+        expect(weights_are(pix2weights + 3, 0.375f, 0.375f, 0.25f), "of the one piece's corners, at the second pixel");
+    }
+    cut_face(face, two, pix2weights);
+    expect(weights_are(pix2weights, 0.0625f, 0.4375f, 0.5f), "of the first piece's corners");
+    expect(weights_are(pix2weights + 3, 0.5f, 0.25f, 0.25f), "of the second piece's corners");
+}
+
+/* The face alone on a clear layer, which it covers or leaves clear. */
+static void faced(const uint32_t *corner, uint32_t facing, int shows, const char *what) {
+    Layer layer;
+    int p;
+    cleared(&layer);
+    expect(drawn(&layer, corner, 3, 7, facing) == 0, what);
+    for (p = 0; p < 4; p += 1) {
+        expect(layer.tri[p] == (shows ? 7u : 4294967295u), what);
+        expect(bits_of(layer.depth[p]) == (shows ? 0x3e800000u : 0xff800000u), what);
+    }
+    /* vertex 0 comes first in either order */
+    expect(layer.weights[0] == (shows ? 0.5f : 0.0f) && layer.weights[6] == (shows ? 0.75f : 0.0f), what);
 }
 
 /* T(0.25) runs counter-clockwise, and clockwise with two corners exchanged: all faces, and front pieces by two numbers. Of
  * both at one depth, the front one is drawn though it comes second. A facing changes no code. */
 static void facing(void) {
     const uint32_t back[3] = {0, 1, 2}, front[3] = {0, 2, 1}, both[6] = {0, 1, 2, 0, 2, 1}, bad[3] = {0, 2, 3};
-    uint32_t pix2tri[4] = {5, 5, 5, 5};
-    float pix2depth[4] = {0.125f, 0.125f, 0.125f, 0.5f};
+    Layer layer = {{5, 5, 5, 5}, {0.125f, 0.125f, 0.125f, 0.5f}, {0}};
+    fill(layer.weights, 12, 0x7fa00001u);
     faced(front, 0, 1, "a front face with all faces");
     faced(back, 0, 1, "a back face with all faces");
     faced(front, 1, 1, "a front face with facing 1");
     faced(back, 1, 0, "a back face with facing 1");
     faced(front, 4294967295u, 1, "a front face with facing 4294967295");
     faced(back, 4294967295u, 0, "a back face with facing 4294967295");
-    expect(paqelzim_pix2tri_by_rasterization(pix2tri, 4, pix2depth, 4, bad, 3, corners, 9, 2, 2, identity, 0, 1) == 6, "names 3, facing 1");
-    expect(paqelzim_pix2tri_by_rasterization(pix2tri, 4, pix2depth, 3, both, 6, corners, 9, 2, 2, identity, 0, 4294967295u) == 4,
-           "one depth short, facing 4294967295");
-    expect(pix2tri[0] == 5 && pix2depth[0] == 0.125f, "a refused drawing of front pieces writes nothing");
-    expect(paqelzim_pix2tri_by_rasterization(pix2tri, 4, pix2depth, 4, both, 6, corners, 9, 2, 2, identity, 0, 1) == 0, "both, facing 1");
-    expect(pix2tri[0] == 1 && pix2depth[0] == 0.25f, "the front one of two");
-    expect(pix2tri[3] == 5 && pix2depth[3] == 0.5f, "a pixel that holds a greater depth");
+    expect(drawn(&layer, bad, 3, 0, 1) == 6, "names 3, facing 1");
+    expect(paqelzim_pix2tri_by_rasterization(layer.tri, 4, layer.depth, 3, layer.weights, 12, both, 6,
+                                             corners, 9, 2, 2, identity, 0, 4294967295u) == 4, "one depth short, facing 4294967295");
+    expect(layer.tri[0] == 5 && layer.depth[0] == 0.125f, "a refused drawing of front pieces writes nothing");
+    expect(all_are(layer.weights, 12, 0x7fa00001u), "nor any weight");
+    expect(drawn(&layer, both, 6, 0, 1) == 0, "both, facing 1");
+    expect(layer.tri[0] == 1 && layer.depth[0] == 0.25f, "the front one of two");
+    expect(weights_are(layer.weights, 0.5f, 0.375f, 0.125f), "with its weights");
+    expect(layer.tri[3] == 5 && layer.depth[3] == 0.5f, "a pixel that holds a greater depth");
+    expect(all_are(layer.weights + 9, 3, 0x7fa00001u), "keeps its weights");
 }
 
 /* T(0.25) and a face with a corner nowhere on 2 x 2; refused, every field but the code is 0. */
@@ -235,6 +327,7 @@ int main(void) {
     edges_backward();
     velocities();
     drawing();
+    cut();
     facing();
     load();
     return wrong == 0 ? 0 : 1;

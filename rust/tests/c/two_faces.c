@@ -13,10 +13,12 @@ int main(void) {
                                -1, -1, 0.50f, 3, -1, 0.50f, -1, 3, 0.50f};
     uint32_t pix2tri[4];
     float pix2depth[4];
+    float pix2weights[12];
 
-    uint32_t code = paqelzim_clear(pix2tri, 4, pix2depth, 4, 2, 2);
+    uint32_t code = paqelzim_clear(pix2tri, 4, pix2depth, 4, pix2weights, 12, 2, 2);
     if (code == 0)
-        code = paqelzim_pix2tri_by_rasterization(pix2tri, 4, pix2depth, 4, tri2vtx, 6, vtx2xyz, 18, 2, 2, identity, 0, 0);
+        code = paqelzim_pix2tri_by_rasterization(pix2tri, 4, pix2depth, 4, pix2weights, 12, tri2vtx, 6, vtx2xyz, 18, 2, 2,
+                                                 identity, 0, 0);
     if (code != 0) {
         printf("refused at question %" PRIu32 "\n", code);
         return 1;

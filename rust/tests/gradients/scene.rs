@@ -1,6 +1,6 @@
 //! Random meshes before a camera, drawn by the library.
 use crate::rules::{dot, projected, ray, stretch, weights, Point, Ray};
-use paqelzim::{clear, pix2tri_by_rasterization, Facing};
+use paqelzim::{Facing, Layer};
 
 pub const EMPTY: u32 = u32::MAX;
 /// Pixels that are stretched more are left out: their rays graze their faces, or the faces are thin or far.
@@ -159,13 +159,10 @@ fn places(random: &mut Random, vertices: usize, ndc2world: &[f64; 16]) -> Vec<f3
 
 /// The library's drawing on a clear layer.
 fn drawn(size: (usize, usize), tri2vtx: &[u32], xyz: &[f32], world2ndc: &[f32; 16]) -> Vec<u32> {
-    let (w, h) = size;
-    let (mut map, mut depths) = (vec![0; w * h], vec![0.0; w * h]);
-    clear(&mut map, &mut depths, w, h).expect("accepted");
-    let all = Facing::All;
-    pix2tri_by_rasterization(&mut map, &mut depths, tri2vtx, xyz, w, h, world2ndc, 0, all)
-        .expect("accepted");
-    map
+    let mut layer = Layer::new(size.0, size.1).expect("accepted");
+    let answer = layer.draw(tri2vtx, xyz, world2ndc, 0, Facing::All);
+    answer.expect("accepted");
+    layer.map().to_vec()
 }
 
 /// A scene for each seed.
