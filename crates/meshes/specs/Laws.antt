@@ -1,5 +1,5 @@
 -- Proved of the definitions, for the crates that use them.
-use Prim.Native.Nat.{ℕ, zero, suc, _+_, _*_, _/_, _≤_, _<_}
+use Prim.Native.Nat.{ℕ, zero, suc, _+_, _-_, _*_, _/_, _≤_, _<_}
 use mathlib.Core.Path.{_≡_, refl, sym, ap, _∙_}
 use mathlib.Core.Bool.{true}
 use mathlib.Core.Option.{Option, none, some}
@@ -8,12 +8,13 @@ use native.Mathlib.Nat.{not-suc-le-zero, le-of-suc-le-suc, zero-add}
 use native.Mathlib.Numerals.{add-one}
 use native.Mathlib.Omega.{arith}
 use borrow.Author.Tests.{eq-eqb, ne-eqb}
+use lib.Dec.{ltb}
 use lib.Ieee.{Float}
-use lib.ListN.{length, getD, drop, length-set}
-use lib.Seq.{drop-cons}
+use lib.ListN.{length, getD, take, drop, length-set, length-drop}
+use lib.Seq.{drop-cons, length-take-le, getD-take, getD-drop}
 use Rattle.lists.specs.Lists.{span}
 use Rattle.lists.specs.Laws.Turns.{flatMap-none, flatMap-one, flatMap-add}
-use Rattle.lists.specs.Laws.Every.{every-at}
+use Rattle.lists.specs.Laws.Every.{every-at, every-of}
 use Rattle.geometry.specs.Vector.{Projected}
 use Rattle.geometry.specs.Answer.{projectionOf}
 use Rattle.geometry.specs.declared.Projection.{Projection}
@@ -78,6 +79,53 @@ faces-from tri i h =
     rw add-one
     (drop-cons (facesOf tri) i (face 0 0 0) (omega (arith, length-faces tri))
     ∙ ap (λ (f : Face). f ∷ drop (suc i) (facesOf tri)) (face-get tri i (face 0 0 0) h))
+
+-- ---- a part of the list, as the code lends it: the faces from number `from` up to `to`
+
+three : (n : ℕ) → 3 * suc n ≡ suc (suc (suc (3 * n)))
+three n = omega arith
+
+faces-drop : (n : ℕ) (tri : List ℕ) → facesOf (drop (3 * n) tri) ≡ drop n (facesOf tri)
+unfolding facesOf
+faces-drop zero tri = refl
+faces-drop (suc n) [] = rw (three n)
+faces-drop (suc n) (a ∷ []) = rw (three n)
+faces-drop (suc n) (a ∷ b ∷ []) = rw (three n)
+faces-drop (suc n) (a ∷ b ∷ c ∷ tri) = rw (three n) (faces-drop n tri)
+
+faces-take : (n : ℕ) (tri : List ℕ) → facesOf (take (3 * n) tri) ≡ take n (facesOf tri)
+unfolding facesOf
+faces-take zero tri = refl
+faces-take (suc n) [] = rw (three n)
+faces-take (suc n) (a ∷ []) = rw (three n)
+faces-take (suc n) (a ∷ b ∷ []) = rw (three n)
+faces-take (suc n) (a ∷ b ∷ c ∷ tri) = rw (three n) (ap (λ (fs : List Face). face a b c ∷ fs) (faces-take n tri))
+
+module _ (from to : ℕ) where
+  abbrev pub part : List ℕ → List ℕ
+  part tri = take (3 * to - 3 * from) (drop (3 * from) tri)
+
+  pub faces-part : (tri : List ℕ) → facesOf (part tri) ≡ take (to - from) (drop from (facesOf tri))
+  faces-part tri =
+      let threes : 3 * to - 3 * from ≡ 3 * (to - from) = omega arith in
+      rw (threes, faces-take (to - from) (drop (3 * from) tri), faces-drop from tri)
+
+  pub length-part : (tri : List ℕ) → to ≤ length tri / 3 → length (part tri) ≡ 3 * to - 3 * from
+  length-part tri h = length-take-le (3 * to - 3 * from) (drop (3 * from) tri) (omega (arith, length-drop (3 * from) tri))
+
+  -- a part of a sound mesh's faces, with all its vertices
+  pub sound-part : {tri : List ℕ} {xyz : List Float} → SoundMesh tri xyz → to ≤ length tri / 3 → SoundMesh (part tri) xyz
+  sound-part {tri} {xyz} s h =
+      record {
+        faces = omega (arith, length-part tri h);
+        vertices = s .vertices;
+        named =
+            every-of (λ x. ltb x (length xyz / 3)) 0 (part tri)
+            (λ i l.
+            let here : i < 3 * to - 3 * from = omega (arith, length-part tri h) in
+            rw (getD-take (3 * to - 3 * from) (drop (3 * from) tri) i 0 here, getD-drop (3 * from) tri i 0)
+            (every-at (λ x. ltb x (length xyz / 3)) tri (s .named) (3 * from + i) (omega arith)));
+      }
 
 -- ---- additions
 

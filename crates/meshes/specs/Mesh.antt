@@ -25,6 +25,11 @@ facesOf (a ∷ []) = []
 facesOf (a ∷ b ∷ []) = []
 facesOf (a ∷ b ∷ c ∷ tri) = face a b c ∷ facesOf tri
 
+-- the face slice of a list of faces
+unfoldable pub flat : List Face → List ℕ
+flat [] = []
+flat (f ∷ fs) = f .v0 ∷ f .v1 ∷ f .v2 ∷ flat fs
+
 -- vertex number v
 unfoldable pub vertexAt : List Float → ℕ → Vec3 Float
 vertexAt xyz v = vec3 (getD xyz (3 * v) nan) (getD xyz (3 * v + 1) nan) (getD xyz (3 * v + 2) nan)

@@ -2,6 +2,7 @@
 // its arguments on, and promises what the callee's definition says.
 
 use load::DrawingLoad;
+use removal_counts::RemovalPreview;
 ghost use mathlib.Core.Path.{_≡_};
 ghost use lib.Ieee.{binary32, binary64};
 ghost use Rattle.roots.specs.Root.{SquareRoot};
@@ -13,6 +14,8 @@ ghost use Rattle.meshes.specs.View.{viewOf};
 ghost use Rattle.rules.specs.Calls.{draws};
 ghost use Rattle.rules.specs.Load.{loading};
 ghost use Rattle.load.specs.Answer.{answered};
+ghost use Rattle.removal_rules.specs.Removal.{previewing};
+ghost use Rattle.removal_counts.specs.Answer as removal;
 ghost use Rattle.pixel_rays.specs.Rays.{image};
 ghost use Rattle.vertex_values.specs.Pass.{vertices};
 ghost use Rattle.values.specs.Interpolate.{interpolating};
@@ -79,6 +82,43 @@ pub extern "C" fn paqelzim_drawing_load(
     ensures { λ r. ⌜ answered r ≡ loading (now (tri2vtx .entry)) (now (vtx2xyz .entry)) «img_w» «img_h» (now («transform_world2ndc» .entry)) ⌝ }
 {
     load::drawing_load(tri2vtx, vtx2xyz, img_w, img_h, transform_world2ndc)
+}
+
+#[no_mangle]
+pub extern "C" fn paqelzim_preview_removal(
+    tri2vtx: &[u32],
+    vtx2xyz: &[f32],
+    img_w: usize,
+    img_h: usize,
+    transform_world2ndc: &[f32; 16],
+    removed: &[u8],
+    full_pix2tri: &mut [u32],
+    full_pix2depth: &mut [f32],
+    full_pix2weights: &mut [f32],
+    short_pix2tri: &mut [u32],
+    short_pix2depth: &mut [f32],
+    short_pix2weights: &mut [f32],
+) -> RemovalPreview
+    ensures { λ r. ⌜ removal.answered r (layer (now («full_pix2tri» .exit)) (now («full_pix2depth» .exit)) (now («full_pix2weights» .exit)))
+        (layer (now («short_pix2tri» .exit)) (now («short_pix2depth» .exit)) (now («short_pix2weights» .exit)))
+        ≡ previewing (now (tri2vtx .entry)) (now (vtx2xyz .entry)) «img_w» «img_h» (now («transform_world2ndc» .entry)) (now (removed .entry))
+        (layer (now («full_pix2tri» .entry)) (now («full_pix2depth» .entry)) (now («full_pix2weights» .entry)))
+        (layer (now («short_pix2tri» .entry)) (now («short_pix2depth» .entry)) (now («short_pix2weights» .entry))) ⌝ }
+{
+    removal::preview_removal(
+        tri2vtx,
+        vtx2xyz,
+        img_w,
+        img_h,
+        transform_world2ndc,
+        removed,
+        full_pix2tri,
+        full_pix2depth,
+        full_pix2weights,
+        short_pix2tri,
+        short_pix2depth,
+        short_pix2weights,
+    )
 }
 
 #[no_mangle]

@@ -14,14 +14,14 @@ use Rattle.cells.specs.Layer.{Layer, at}
 use Rattle.cells.specs.Steps.{Spans}
 use Rattle.layers.specs.Calls.{clearCode, clearing, joinCode, joining}
 use Rattle.cells.specs.Laws.Pixels.{spans-pixelwise}
-use Rattle.meshes.specs.Mesh.{Face, facesOf}
+use Rattle.meshes.specs.Mesh.{Face, facesOf, flat}
 use Rattle.rules.specs.Offers.{Scene, scene, brought}
 use Rattle.rules.specs.Draw.{drawn}
 use Rattle.rules.specs.Calls.{drawCode, facingOf, draws}
 use Rattle.rules.specs.Laws.Paint.{spans-painted}
 use Rattle.sequences.specs.Calls.{Store, layerOf, Call, written, whole, outcomeOf, after}
 use Rattle.sequences.specs.Plan as plan
-use Rattle.sequences.specs.Plan.{flat, Stands, nothing, blank, runs, changedAt, run, firstOf, clearOf, drawOf, joinOf, Keeps, over, clears, joins}
+use Rattle.sequences.specs.Plan.{Stands, nothing, blank, runs, changedAt, run, firstOf, clearOf, drawOf, joinOf, Keeps, over, clears, joins}
 use Rattle.sequences.specs.Whole.{pixelCount, this-layer, other-layers}
 use Rattle.sequences.specs.Case.{Cut, Planned}
 

@@ -11,13 +11,13 @@ use Rattle.offers.specs.Laws.Joins.{won}
 use Rattle.cells.specs.Cell.{Cell, cell, noHit}
 use Rattle.cells.specs.Layer.{layer, weightsAt}
 use Rattle.layers.specs.Calls.{clearing, clearCode, joining, joinCode}
-use Rattle.meshes.specs.Mesh.{Face, face, facesOf}
+use Rattle.meshes.specs.Mesh.{Face, face, facesOf, flat}
 use Rattle.rules.specs.declared.Facing.{Facing}
 use Rattle.rules.specs.declared.Facing.the-variants.{All, Front}
 use Rattle.rules.specs.Offers.{Scene, scene, brought}
 use Rattle.sequences.specs.Calls.{Store, after}
 use Rattle.sequences.specs.Plan as plan
-use Rattle.sequences.specs.Plan.{flat, joined, nothing, runs, changedAt, over, clears, joins, clearOf, drawOf, joinOf}
+use Rattle.sequences.specs.Plan.{joined, nothing, runs, changedAt, over, clears, joins, clearOf, drawOf, joinOf}
 use Rattle.sequences.specs.Case.{Cut, Case, full}
 use Rattle.sequences.specs.Instance.{keep, not-held}
 use Rattle.sequences.specs.Example as example

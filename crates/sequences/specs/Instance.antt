@@ -15,13 +15,13 @@ use Rattle.offers.specs.Laws.Removal.{with-greatest}
 use Rattle.cells.specs.Cell.{Cell, noHit}
 use Rattle.cells.specs.Steps.{Spans}
 use Rattle.layers.specs.Calls.{clearing, clearCode, joining, joinCode}
-use Rattle.meshes.specs.Mesh.{Face, face, facesOf}
+use Rattle.meshes.specs.Mesh.{Face, face, facesOf, flat}
 use Rattle.rules.specs.declared.Facing.the-variants.{All}
 use Rattle.rules.specs.Offers.{Scene, scene, brought, offers, Holds}
 use Rattle.rules.specs.Calls.{facingOf}
 use Rattle.sequences.specs.Calls.{Store, layerOf, Call, clear, draw, join, held, other, whole, outcomeOf, after, afterAll}
 use Rattle.sequences.specs.Plan as plan
-use Rattle.sequences.specs.Plan.{flat, joined, Stands, nothing, runs, changedAt, Keeps, over, clears, joins, refused, clearOf, drawOf, joinOf}
+use Rattle.sequences.specs.Plan.{joined, Stands, nothing, runs, changedAt, Keeps, over, clears, joins, refused, clearOf, drawOf, joinOf}
 use Rattle.sequences.specs.Case.{Cut, Case}
 use Rattle.sequences.specs.Example as example
 use Rattle.sequences.specs.Example.{matrix, corners, quarter, half, four, twelve, faced}

@@ -15,10 +15,10 @@ use Rattle.offers.specs.Thinning.{keptFrom}
 use Rattle.offers.specs.Laws.Thinning.{kept-length}
 use Rattle.cells.specs.Layer.{Layer}
 use Rattle.layers.specs.Calls.{exactLayer}
-use Rattle.meshes.specs.Mesh.{Face, facesOf, faceAt}
+use Rattle.meshes.specs.Mesh.{Face, facesOf, faceAt, flat}
 use Rattle.rules.specs.Offers.{Scene}
 use Rattle.rules.specs.Calls.{drawCode}
-use Rattle.sequences.specs.Plan.{flat, joined, run, firstOf}
+use Rattle.sequences.specs.Plan.{joined, run, firstOf}
 use Rattle.sequences.specs.Whole.{Fit, length-flat}
 
 -- ---- corners below the vertex count

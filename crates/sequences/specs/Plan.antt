@@ -6,15 +6,10 @@ use mathlib.Core.List.{List, [], _∷_, _++_}
 use lib.Dec.{eqb}
 use lib.ListN.{length, take, getD}
 use Rattle.cells.specs.Steps.{Spans}
-use Rattle.meshes.specs.Mesh.{Face}
+use Rattle.meshes.specs.Mesh.{Face, flat}
 use Rattle.rules.specs.Offers.{Scene}
 use Rattle.rules.specs.Calls.{facingOf}
 use Rattle.sequences.specs.Calls.{Store, layerOf, whole, Call, clear, draw, join, outcomeOf, after}
-
--- the face slice `tri2vtx` of a list of faces
-unfoldable pub flat : List Face → List ℕ
-flat [] = []
-flat (f ∷ fs) = f .v0 ∷ f .v1 ∷ f .v2 ∷ flat fs
 
 -- the runs one after the other
 unfoldable pub joined : {A : Type 0} → List (List A) → List A

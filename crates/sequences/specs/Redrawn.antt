@@ -3,7 +3,7 @@ use Prim.Native.Nat.{ℕ, zero, suc, _<_}
 use mathlib.Core.Path.{_≡_, refl, ap, sym, _∙_}
 use mathlib.Core.Logic.{_⊎_, inl, inr}
 use mathlib.Core.Bool.{not}
-use mathlib.Core.List.{List, _∷_, map}
+use mathlib.Core.List.{List, _∷_, map, List·Memᴰ}
 use native.Mathlib.Nat.{zero-add}
 use native.Mathlib.Omega.{arith}
 use lib.Dec.{T, ltb, ltb→lt, nltb→le}
@@ -29,18 +29,21 @@ use Rattle.rules.specs.Offers.{Scene, brings, brought, offers, Holds}
 use Rattle.sequences.specs.Whole.{pixelCount, fresh, fresh-pixels, fresh-spans}
 
 module _ (sc : Scene) (fs : List Face) where
-  -- a face that holds a pixel is one of the list
+  -- an offer is of a face of the list, and so is the one that holds a pixel
+  pub offer-face : (p : ℕ) (c : Cell) → List·Memᴰ c (offers sc fs 0 p) → c .payload .number < length fs
+  unfolding offers brought
+  offer-face p c m =
+      omega (arith, brought-number (λ (h : Hit). h .number) (λ j f. numbered j (brings sc f p)) (λ k f o. numbered-number k (brings sc f p) o) 0 fs c (was-brought c (brought sc fs 0 p) m .0) .1)
+
   pub holds-face : (i p : ℕ) → Holds sc fs i p → i < length fs
-  unfolding Holds offers brought
-  holds-face i p held =
-      let m = was-brought (held .0) (brought sc fs 0 p) (is-there (held .1)) .0 in
-      omega (arith, brought-number (λ (h : Hit). h .number) (λ j f. numbered j (brings sc f p)) (λ k f o. numbered-number k (brings sc f p) o) 0 fs (held .0) m .1, held .2)
+  unfolding Holds
+  holds-face i p held = omega (arith, offer-face p (held .0) (is-there (held .1)), held .2)
 
   -- the map of its drawing
   abbrev pub drawnMap : List ℕ
   drawnMap = fresh sc fs 0 .pix2tri
 
-  entry-is : (p : ℕ) → p < pixelCount sc → entryAt drawnMap p ≡ won noHit (brought sc fs 0 p) .payload .number
+  pub entry-is : (p : ℕ) → p < pixelCount sc → entryAt drawnMap p ≡ won noHit (brought sc fs 0 p) .payload .number
   entry-is p h =
       ap (λ (l : Layer). getD (l .pix2tri) p empty) (fresh-pixels sc fs 0)
       ∙ getD-tabulate (λ q. won noHit (brought sc fs 0 q) .payload .number) 0 (pixelCount sc) p empty h

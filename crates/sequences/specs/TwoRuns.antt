@@ -9,16 +9,17 @@ use lib.Dec.{eqb, lit<}
 use lib.ListN.{length, take, drop, take-append-drop}
 use Rattle.questions.specs.Questions.{Outcome, outcome, empty}
 use Rattle.offers.specs.Thinning.{keptFrom, keptBefore, renumber}
+use Rattle.offers.specs.Laws.Thinning.{kept-all}
 use Rattle.cells.specs.Layer.{Layer}
 use Rattle.cells.specs.Steps.{Spans}
 use Rattle.cells.specs.Laws.Cells.{same-buffers}
 use Rattle.layers.specs.Calls.{clearing, joining}
-use Rattle.meshes.specs.Mesh.{Face, facesOf}
+use Rattle.meshes.specs.Mesh.{Face, facesOf, flat}
 use Rattle.rules.specs.Offers.{Scene}
 use Rattle.rules.specs.Calls.{drawCode, facingOf, draws}
 use Rattle.sequences.specs.Calls.{Store, after, afterAll}
 use Rattle.sequences.specs.Plan as plan
-use Rattle.sequences.specs.Plan.{flat, joined, nothing, runs, changedAt, over, clears, joins, clearOf, drawOf, joinOf, Accepted}
+use Rattle.sequences.specs.Plan.{joined, nothing, runs, changedAt, over, clears, joins, clearOf, drawOf, joinOf, Accepted}
 use Rattle.sequences.specs.Whole.{pixelCount, cleared, length-flat}
 use Rattle.sequences.specs.Mesh.{answered, threes-of}
 use Rattle.sequences.specs.Case.{Case, full, final, pictures}
@@ -45,13 +46,11 @@ taken (suc c) [] h = absurd (omega arith)
 taken (suc c) (f ∷ fs) h = ap suc (taken c fs (omega arith))
 
 -- no face is taken out
-abbrev every : ℕ → Bool
+abbrev pub every : ℕ → Bool
 every k = true
 
-kept-every : (k : ℕ) (fs : List Face) → keptFrom every k fs ≡ fs
-unfolding keptFrom
-kept-every k [] = refl
-kept-every k (f ∷ fs) = ap (λ (l : List Face). f ∷ l) (kept-every (suc k) fs)
+pub kept-every : (k : ℕ) (fs : List Face) → keptFrom every k fs ≡ fs
+kept-every k fs = kept-all every k fs (λ i l. tt)
 
 before-every : (k : ℕ) → keptBefore every k ≡ k
 unfolding keptBefore

@@ -17,7 +17,7 @@ use Rattle.cells.specs.Steps.{Spans}
 use Rattle.layers.specs.Calls.{exactLayer, clearCode, clearing, joinCode, joining}
 use Rattle.cells.specs.Laws.Cells.{same-buffers}
 use Rattle.cells.specs.Laws.Pixels.{pixelwise-same, at-pixelwise, spans-pixelwise}
-use Rattle.meshes.specs.Mesh.{Face, facesOf}
+use Rattle.meshes.specs.Mesh.{Face, facesOf, flat}
 use Rattle.rules.specs.declared.Facing.{Facing}
 use Rattle.rules.specs.Offers.{Scene, scene, brings, brought}
 use Rattle.rules.specs.Draw.{painted, drawn}
@@ -26,7 +26,7 @@ use Rattle.offers.specs.Laws.Joins.{won}
 use Rattle.offers.specs.Laws.Faces.{won-runs}
 use Rattle.sequences.specs.Calls.{Store, layerOf, Lent, held, other, contents, returned, lentLayer, whole, Call, clear, draw, join, written, outcomeOf, after, afterAll}
 use Rattle.sequences.specs.Plan as plan
-use Rattle.sequences.specs.Plan.{flat, joined, Stands, nothing, blank, runs, changedAt, run, firstOf, clearOf, drawOf, joinOf, Keeps, over, clears, joins, refused, Accepted}
+use Rattle.sequences.specs.Plan.{joined, Stands, nothing, blank, runs, changedAt, run, firstOf, clearOf, drawOf, joinOf, Keeps, over, clears, joins, refused, Accepted}
 
 -- ---- one call
 
@@ -205,9 +205,13 @@ module _ (sc : Scene) (rs : List (List Face)) where
       go false e = subst (Has (g j)) (sym (stay j (λ p. absurd (true≢false (sym (eq-eqb i j p) ∙ e))))) (inv j)
 
   module _ (fit : Fit sc rs) where
-    clear-layer : (s : Store) (i : ℕ) → Spans (layerOf s i) (pixelCount sc) → layerOf (after s (clearOf sc rs i)) i ≡ cleared (pixelCount sc)
+    -- a layer of the image's lengths, cleared
+    pub clear-left : (l : Layer) → Spans l (pixelCount sc) → clearing l (sc .width) (sc .height) .left ≡ cleared (pixelCount sc)
     unfolding clearing
-    clear-layer s i h = this-layer s (clearOf sc rs i) i refl ∙ accepted-left _ _ _ (clear-code fit (layerOf s i) h)
+    clear-left l h = accepted-left _ _ _ (clear-code fit l h)
+
+    clear-layer : (s : Store) (i : ℕ) → Spans (layerOf s i) (pixelCount sc) → layerOf (after s (clearOf sc rs i)) i ≡ cleared (pixelCount sc)
+    clear-layer s i h = this-layer s (clearOf sc rs i) i refl ∙ clear-left (layerOf s i) h
 
     blank-spans : (l : Layer) → l ≡ cleared (pixelCount sc) → Spans l (pixelCount sc)
     blank-spans l e = rw e (spans-pixelwise (pixelCount sc) (λ p. cell.clear))
@@ -216,14 +220,18 @@ module _ (sc : Scene) (rs : List (List Face)) where
     unfolding Has
     runs-spans l from m e = rw e (fresh-spans sc (span from m) (firstOf sc rs from))
 
+    -- a run drawn on a cleared layer
+    pub drawn-left : (l : Layer) (facing r : ℕ) → facingOf facing ≡ sc .facing → r < length rs → l ≡ cleared (pixelCount sc)
+        → draws l (flat (run sc rs r)) (sc .vertices) (sc .width) (sc .height) (sc .matrix) (firstOf sc rs r) facing .left ≡ fresh sc (span r 1) (firstOf sc rs r)
+    unfolding draws fresh
+    drawn-left l facing r f h e =
+        accepted-left _ _ _ (draw-code fit l r h (blank-spans l e))
+        ∙ ap (λ (n : Facing). drawn (scene (sc .matrix) (sc .vertices) (sc .width) (sc .height) n) (facesOf (flat (run sc rs r))) (firstOf sc rs r) l) f
+        ∙ ap₂ (λ (fs : List Face) (l : Layer). drawn sc fs (firstOf sc rs r) l) (faces-flat (run sc rs r) ∙ sym (span-one r h)) e
+
     drawn-layer : (s : Store) (facing i r : ℕ) → facingOf facing ≡ sc .facing → r < length rs → layerOf s i ≡ cleared (pixelCount sc)
         → layerOf (after s (drawOf sc rs facing r i)) i ≡ fresh sc (span r 1) (firstOf sc rs r)
-    unfolding draws fresh
-    drawn-layer s facing i r f h e =
-        this-layer s (drawOf sc rs facing r i) i refl
-        ∙ accepted-left _ _ _ (draw-code fit (layerOf s i) r h (blank-spans (layerOf s i) e))
-        ∙ ap (λ (n : Facing). drawn (scene (sc .matrix) (sc .vertices) (sc .width) (sc .height) n) (facesOf (flat (run sc rs r))) (firstOf sc rs r) (layerOf s i)) f
-        ∙ ap₂ (λ (fs : List Face) (l : Layer). drawn sc fs (firstOf sc rs r) l) (faces-flat (run sc rs r) ∙ sym (span-one r h)) e
+    drawn-layer s facing i r f h e = this-layer s (drawOf sc rs facing r i) i refl ∙ drawn-left (layerOf s i) facing r f h e
 
     joined-layer : (s : Store) (i j from m n : ℕ) → Has (runs from m) (layerOf s i) → Has (runs (from + m) n) (layerOf s j)
         → layerOf (after s (joinOf sc rs i j)) i ≡ fresh sc (span from (m + n)) (firstOf sc rs from)

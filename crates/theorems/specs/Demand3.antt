@@ -5,7 +5,7 @@
 --   Idle                        the faces taken out hold no pixel (sequences Thinned)
 --   full, final, Pictures       the whole drawing, the layer that remains, and what is said of the two (sequences Case)
 --   Layer, at, Spans, noHit     a layer's map, depths and weights, its cells, its lengths, and what a clear cell has beside its depth (cells Layer, Steps, Cell)
---   flat, joined, cleared       a list of faces as a slice, runs one after the other, a cleared layer (sequences Plan, Whole)
+--   flat, joined, cleared       a list of faces as a slice, runs one after the other, a cleared layer (meshes Mesh, sequences Plan, Whole)
 --   keptFrom, renumber          the faces kept, and their new numbers (offers Thinning)
 --   offers, Holds, Shows        the offers at a pixel and what it shows, defined without drawing (rules Offers, offers Offers)
 --   clearing, joining, draws, drawCode                         the outcomes of the three calls, cited by their contracts (layers Calls, rules Calls)
@@ -20,9 +20,9 @@ use lib.ListN.{length, getD}
 use Rattle.questions.specs.Questions.{allBelow, empty}
 use Rattle.offers.specs.Thinning.{renumber}
 use Rattle.cells.specs.Layer.{Layer}
+use Rattle.meshes.specs.Mesh.{flat}
 use Rattle.meshes.specs.View.{viewOf}
 use Rattle.views.specs.Alike.{Alike}
-use Rattle.sequences.specs.Plan.{flat}
 use Rattle.sequences.specs.Whole.{fresh}
 use Rattle.sequences.specs.Mesh.{threes-of, few-of}
 use Rattle.sequences.specs.Thinned.{alike}

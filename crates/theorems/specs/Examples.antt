@@ -6,6 +6,7 @@ pub mod Floats
 pub mod Load
 pub mod Visits
 pub mod Facing
+pub mod Removal
 use mathlib.Core.Path.{_≡_, refl}
 use mathlib.Core.List.{[], _∷_}
 use lib.ListN.{drop}

@@ -82,6 +82,11 @@ count-same f g a b (suc n) e =
 pub count-add : (f : ℕ → Bool) (a n m : ℕ) → count f (span a (n + m)) ≡ count f (span a n) + count f (span (a + n) m)
 count-add f a n m = ap (count f) (tabulate-add (λ i. i) a n m) ∙ count-both f (span a n) (span (a + n) m)
 
+-- as a loop counts: one number more
+pub count-next : (f : ℕ → Bool) (i : ℕ) → count f (span 0 (i + 1)) ≡ count f (span 0 i) + cond (f i) 1 0
+unfolding tabulate
+count-next f i = count-add f 0 i 1 ∙ ap (λ (k : ℕ). count f (span 0 i) + k) (rw zero-add (count-more f i [] ∙ rw (count-none f) (add-zero (cond (f i) 1 0))))
+
 -- all pass, or none does
 pub count-alike : (f : ℕ → Bool) (b : Bool) (a n : ℕ) → ((i : ℕ) → i < n → f (a + i) ≡ b) → count f (span a n) ≡ cond b n 0
 unfolding tabulate

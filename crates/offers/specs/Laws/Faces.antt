@@ -12,11 +12,11 @@ use Rattle.offers.specs.Offer.{Offer, renamed, pick}
 use Rattle.offers.specs.Offers.{brought, offersOf, Greatest}
 use Rattle.offers.specs.Thinning.{keptFrom, keptBefore}
 use Rattle.offers.specs.Laws.Joins.{won, won-append}
-use Rattle.offers.specs.Laws.Removal.{keptOffers, all-kept, none-kept, kept-append, won-kept}
-use Rattle.offers.specs.Laws.Renaming.{won-renamed}
+use Rattle.offers.specs.Laws.Removal.{keptOffers, all-kept, none-kept, kept-append, kept-offers, won-kept}
+use Rattle.offers.specs.Laws.Renaming.{offers-renamed, won-renamed}
 
 module _ {F P : Type 0} (bring : ℕ → F → List (Offer P)) where
-  brought-append : (k : ℕ) (xs ys : List F) → brought bring k (xs ++ ys) ≡ brought bring k xs ++ brought bring (k + length xs) ys
+  pub brought-append : (k : ℕ) (xs ys : List F) → brought bring k (xs ++ ys) ≡ brought bring k xs ++ brought bring (k + length xs) ys
   unfolding brought
   brought-append k [] ys = rw add-zero
   brought-append k (x ∷ xs) ys =
@@ -74,6 +74,14 @@ module _ {F P : Type 0} (number : P → ℕ) (bring : ℕ → F → List (Offer 
                 ih,
               )
           go false e ih = rw (kept-append (λ x. keep (number x)) (bring k f) (brought bring (suc k) fs), face-dropped k f e) ih
+
+      -- the offers of the thinned list are those of the kept faces
+      pub offers-kept : (fs : List F) → length fs ≤ most → offersOf (brought bring' 0 (keptFrom keep 0 fs)) ≡ map (renamed r) (keptOffers (λ x. keep (number x)) (offersOf (brought bring 0 fs)))
+      unfolding keptBefore
+      offers-kept fs h =
+          ap offersOf (brought-kept 0 fs (omega arith))
+          ∙ offers-renamed r (ofKept (brought bring 0 fs))
+          ∙ ap (map (renamed r)) (kept-offers (λ x. keep (number x)) (brought bring 0 fs))
 
       -- the pixel of the thinned list, drawn from 0, where no face taken out holds the pixel
       pub won-thinned : (none : P) (none' : Q) → r none ≡ none' → (fs : List F) → length fs ≤ most

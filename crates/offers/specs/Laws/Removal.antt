@@ -16,7 +16,7 @@ keptOffers keep (c ∷ cs) = cond (keep (c .payload)) (c ∷ keptOffers keep cs)
 -- ---- the greatest offer is one
 
 module _ {P : Type 0} where
-  not-empty : {os : List (Offer P)} {c : Offer P} → Greatest os c → os ≡ [] → ⊥
+  pub not-empty : {os : List (Offer P)} {c : Offer P} → Greatest os c → os ≡ [] → ⊥
   not-empty {os} {c} g e = go (g .before) (sym (g .split) ∙ e)
     where
       go : (b : List (Offer P)) → b ++ c ∷ g .after ≡ [] → ⊥
@@ -72,6 +72,18 @@ module _ {P : Type 0} (keep : P → Bool) where
   none-kept [] h = refl
   none-kept (c ∷ cs) h = drops c cs (h c (List·Memᴰ·head refl)) ∙ none-kept cs (λ o m. h o (List·Memᴰ·tail m))
 
+  -- where nothing is left, none passed
+  pub nothing-kept : (cs : List (Offer P)) → keptOffers keep cs ≡ [] → (c : Offer P) → List·Memᴰ c cs → T (not (keep (c .payload)))
+  unfolding keptOffers
+  nothing-kept [] e c m = absurd (List·Memᴰ·not-nil m)
+  nothing-kept (x ∷ cs) e c m = go (keep (x .payload)) refl e m (nothing-kept cs)
+    where
+      go : (b : Bool) → keep (x .payload) ≡ b → cond b (x ∷ keptOffers keep cs) (keptOffers keep cs) ≡ [] → List·Memᴰ c (x ∷ cs)
+          → (keptOffers keep cs ≡ [] → (c : Offer P) → List·Memᴰ c cs → T (not (keep (c .payload)))) → T (not (keep (c .payload)))
+      go true k e m ih = let z : _≡_ {A = Bool} true false = cc in absurd (true≢false z)
+      go false k e (List·Memᴰ·head q) ih = rw (q, k) tt
+      go false k e (List·Memᴰ·tail m) ih = ih e c m
+
   pub kept-append : (xs ys : List (Offer P)) → keptOffers keep (xs ++ ys) ≡ keptOffers keep xs ++ keptOffers keep ys
   unfolding keptOffers
   kept-append [] ys = refl
@@ -83,7 +95,7 @@ module _ {P : Type 0} (keep : P → Bool) where
       go false e = e
 
   -- keeping some, then the offers among them, is the other way round too
-  kept-offers : (cs : List (Offer P)) → offersOf (keptOffers keep cs) ≡ keptOffers keep (offersOf cs)
+  pub kept-offers : (cs : List (Offer P)) → offersOf (keptOffers keep cs) ≡ keptOffers keep (offersOf cs)
   unfolding keptOffers offersOf
   kept-offers [] = refl
   kept-offers (c ∷ cs) = go (keep (c .payload)) refl (proper c) refl (kept-offers cs)

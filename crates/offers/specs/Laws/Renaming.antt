@@ -3,6 +3,7 @@ use mathlib.Core.Path.{_≡_, refl, ap, ap₂, sym, _∙_}
 use mathlib.Core.Bool.{Bool, true, false, cond}
 use mathlib.Core.List.{List, [], _∷_, map, List·Memᴰ, List·Memᴰ·head, List·Memᴰ·tail, List·Memᴰ·not-nil}
 use Rattle.offers.specs.Offer.{Offer, offer, renamed, lowest, exceeds, pick, offered}
+use Rattle.offers.specs.Offers.{proper, offersOf}
 use Rattle.offers.specs.Laws.Joins.{won}
 
 module _ {P Q : Type 0} (r : P → Q) where
@@ -22,6 +23,17 @@ module _ {P Q : Type 0} (r : P → Q) where
   clear-renamed : (none : P) (none' : Q) → r none ≡ none' → offer lowest none' ≡ renamed r (offer lowest none)
   unfolding renamed
   clear-renamed none none' e = ap (offer lowest) (sym e)
+
+  -- which of them are offers depends on their depths alone
+  pub offers-renamed : (cs : List (Offer P)) → offersOf (map (renamed r) cs) ≡ map (renamed r) (offersOf cs)
+  unfolding offersOf proper renamed
+  offers-renamed [] = refl
+  offers-renamed (c ∷ cs) = go (proper c) (offers-renamed cs)
+    where
+      go : (t : Bool) → offersOf (map (renamed r) cs) ≡ map (renamed r) (offersOf cs)
+          → cond t (renamed r c ∷ offersOf (map (renamed r) cs)) (offersOf (map (renamed r) cs)) ≡ map (renamed r) (cond t (c ∷ offersOf cs) (offersOf cs))
+      go true e = ap (λ (l : List (Offer Q)). renamed r c ∷ l) e
+      go false e = e
 
   -- of a clear pixel whose payload becomes the new clear one
   pub won-renamed : (none : P) (none' : Q) → r none ≡ none' → (cs : List (Offer P)) → won none' (map (renamed r) cs) ≡ renamed r (won none cs)

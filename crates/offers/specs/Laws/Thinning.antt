@@ -3,12 +3,13 @@ use Prim.Native.Nat.{ℕ, zero, suc, _+_, _-_, _<_, _≤_}
 use mathlib.Core.Path.{_≡_, refl, ap, sym, _∙_}
 use mathlib.Core.Logic.{_⊎_, inl, inr}
 use mathlib.Core.Bool.{Bool, true, false, not, cond}
-use mathlib.Core.List.{List, [], _∷_}
+use mathlib.Core.List.{List, [], _∷_, _++_}
 use native.Mathlib.Nat.{not-suc-le-zero, le-of-suc-le-suc, add-zero, zero-add, add-suc}
 use native.Mathlib.Omega.{arith}
 use borrow.Author.Tests.{ne-eqb, eq-eqb}
 use lib.Dec.{T, ltb, ltb→lt, nltb→le}
-use lib.ListN.{length, getD}
+use lib.ListN.{length, getD, take, drop, take-append-drop}
+use lib.Seq.{length-take-le}
 use Rattle.offers.specs.Thinning.{keptFrom, keptBefore, renumber}
 use Rattle.offers.specs.Laws.Order.{test}
 
@@ -85,13 +86,39 @@ module _ (keep : ℕ → Bool) where
         go true h = refl
         go false h = absurd h
 
-    kept-skip : (k : ℕ) (f : F) (fs : List F) → T (not (keep k)) → keptFrom keep k (f ∷ fs) ≡ keptFrom keep (suc k) fs
+    pub kept-skip : (k : ℕ) (f : F) (fs : List F) → T (not (keep k)) → keptFrom keep k (f ∷ fs) ≡ keptFrom keep (suc k) fs
     unfolding keptFrom
     kept-skip k f fs h = go (keep k) h
       where
         go : (b : Bool) → T (not b) → cond b (f ∷ keptFrom keep (suc k) fs) (keptFrom keep (suc k) fs) ≡ keptFrom keep (suc k) fs
         go true h = absurd h
         go false h = refl
+
+    -- one list after the other
+    pub kept-append : (k : ℕ) (xs ys : List F) → keptFrom keep k (xs ++ ys) ≡ keptFrom keep k xs ++ keptFrom keep (k + length xs) ys
+    unfolding keptFrom
+    kept-append k [] ys = rw add-zero
+    kept-append k (x ∷ xs) ys = go (keep k) (kept-append (suc k) xs ys ∙ ap (λ (j : ℕ). keptFrom keep (suc k) xs ++ keptFrom keep j ys) (omega arith))
+      where
+        go : (b : Bool) → keptFrom keep (suc k) (xs ++ ys) ≡ keptFrom keep (suc k) xs ++ keptFrom keep (k + length (x ∷ xs)) ys
+            → cond b (x ∷ keptFrom keep (suc k) (xs ++ ys)) (keptFrom keep (suc k) (xs ++ ys)) ≡ cond b (x ∷ keptFrom keep (suc k) xs) (keptFrom keep (suc k) xs) ++ keptFrom keep (k + length (x ∷ xs)) ys
+        go true e = ap (λ (l : List F). x ∷ l) e
+        go false e = e
+
+    -- all are kept
+    pub kept-all : (k : ℕ) (fs : List F) → ((i : ℕ) → i < length fs → T (keep (k + i))) → keptFrom keep k fs ≡ fs
+    unfolding keptFrom
+    kept-all k [] h = refl
+    kept-all k (f ∷ fs) h =
+        kept-cons k f fs (rw add-zero at (h 0 (omega arith)))
+        ∙ ap (λ (l : List F). f ∷ l) (kept-all (suc k) fs (λ i l. let e : k + suc i ≡ suc k + i = omega arith in rw e at (h (suc i) (omega arith))))
+
+    -- the first n are kept
+    pub kept-first : (k n : ℕ) (fs : List F) → n ≤ length fs → ((i : ℕ) → i < n → T (keep (k + i))) → keptFrom keep k fs ≡ take n fs ++ keptFrom keep (k + n) (drop n fs)
+    kept-first k n fs l h =
+        ap (keptFrom keep k) (sym (take-append-drop n fs))
+        ∙ kept-append k (take n fs) (drop n fs)
+        ∙ rw (length-take-le n fs l, kept-all k (take n fs) (λ i m. h i (omega (arith, length-take-le n fs l))))
 
     -- face k + i of the full list stands at the count of kept faces before it
     kept-from : (d : F) (fs : List F) (k i j : ℕ) → i < length fs → T (keep (k + i)) → keptBefore keep k + j ≡ keptBefore keep (k + i)

@@ -1,0 +1,3 @@
+-- Lemmas that the proofs cite.
+pub mod Cleared
+pub mod Accepted

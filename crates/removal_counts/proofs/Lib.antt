@@ -1,0 +1,2 @@
+-- Lemmas of the loop over the pixels.
+pub mod Counting

@@ -1,0 +1,3 @@
+-- What the contracts of the preview cite beside its definitions.
+pub mod Answer
+pub mod Steps
