@@ -106,6 +106,42 @@ paqelzim_DrawingLoad paqelzim_drawing_load(const uint32_t *tri2vtx, size_t tri2v
                                            size_t img_w, size_t img_h,
                                            const float *transform_world2ndc);
 
+/* What paqelzim_preview_removal answers: its code, and three counts of pixels. emptied: a face gives way to none; renamed: a
+ * face gives way to another; kept: the face stays, or there was none. They sum to img_w * img_h, and are 0 where the call
+ * refuses. */
+typedef struct {
+    uint32_t code;
+    size_t emptied;
+    size_t renamed;
+    size_t kept;
+} paqelzim_RemovalPreview;
+
+/* Tells what taking faces out of a mesh does to its picture, before it is done. removed has a byte for each face of tri2vtx:
+ * where it is 0 the face stays, where it is anything else the face is taken out. The full scratch layer is cleared and drawn
+ * with every face, the short one is cleared and drawn with those that stay, both as by paqelzim_pix2tri_by_rasterization with
+ * first 0 and facing 0; then the pixels of the two are counted.
+ *
+ * In the short layer a face has a new number: how many of those that stay come before it. A pixel is kept where it shows the
+ * same face by its new number, and renamed where it shows another, even if the number is the one that the full layer has
+ * there. Where no face that is taken out holds a pixel of the full layer, all pixels are kept.
+ *
+ * Mesh and marks are only read, and no shortened list is made. The cost is that of two clears, two drawings and a walk over
+ * the pixels.
+ * Writes: every place of the six scratch slices, which may hold anything before.
+ * Questions: 1; 3; 4: removed has one element for each face, both maps and both depths have img_w * img_h, both weights three
+ * times as many; 6: of every face, also those that are taken out. */
+paqelzim_RemovalPreview paqelzim_preview_removal(const uint32_t *tri2vtx, size_t tri2vtx_len,
+                                                 const float *vtx2xyz, size_t vtx2xyz_len,
+                                                 size_t img_w, size_t img_h,
+                                                 const float *transform_world2ndc,
+                                                 const uint8_t *removed, size_t removed_len,
+                                                 uint32_t *full_pix2tri, size_t full_pix2tri_len,
+                                                 float *full_pix2depth, size_t full_pix2depth_len,
+                                                 float *full_pix2weights, size_t full_pix2weights_len,
+                                                 uint32_t *short_pix2tri, size_t short_pix2tri_len,
+                                                 float *short_pix2depth, size_t short_pix2depth_len,
+                                                 float *short_pix2weights, size_t short_pix2weights_len);
+
 /* Joins two layers: where the right layer's depth is greater, that depth, its number and its weights go into the left. A
  * NaN is never greater, and nothing is greater than a NaN.
  * Writes: the left layer, where the right depth is greater. Its other pixels are stored again, with what they held.

@@ -1,6 +1,7 @@
-//! Reads how a connector housing sits, by fitting its mesh to a picture; then fits it again with a face deleted and
-//! with the mesh cut, drawn in runs and joined, and holds every number of every iteration to the same bits. It also shows where in
-//! its face each pixel lies, and the housing with and without its inner skin.
+//! Reads how a connector housing sits, by fitting its mesh to a picture; then tells what deleting faces would do to the picture,
+//! and fits again with faces deleted that would not be missed and with the mesh cut, drawn in runs and joined, and holds every
+//! number of every iteration to the same bits. It also shows where in its face each pixel lies, and the housing with and without
+//! its inner skin.
 //!
 //! `cargo run --release --offline --example fit -- FOLDER` writes the pictures there (`target/fit` where none is named).
 #[path = "fit/camera.rs"]
@@ -13,13 +14,17 @@ mod pictures;
 mod png;
 #[path = "fit/pose.rs"]
 mod pose;
+#[path = "fit/removal.rs"]
+mod removal;
 #[path = "fit/scene.rs"]
 mod scene;
 #[path = "fit/skins.rs"]
 mod skins;
 
 use housing::CHANNELS;
+use paqelzim::RemovalPreview;
 use pose::Pose;
+use removal::Preview;
 use scene::{Scene, Seen, Way};
 use skins::Skins;
 use std::path::{Path, PathBuf};
@@ -54,8 +59,11 @@ fn main() -> Result<(), Failure> {
     pictures::write(&folder, &scene, &before.0, &after.0)?;
     show_skins(&folder, &scene)?;
     println!("pictures in {}\n", folder.display());
+    let ways = other_ways(&scene, &whole);
+    println!("what deleting faces would do to the picture:");
+    preview_deletions(&scene, &ways, &whole)?;
     println!("the same fit in other ways, each iteration held to the bits of the one above:");
-    for way in other_ways(&scene, &whole) {
+    for way in ways {
         let numbers = same_bits(&scene, &way, &whole)?;
         println!("{way}: {numbers} numbers, all the same");
     }
@@ -102,6 +110,48 @@ fn other_ways(scene: &Scene, whole: &Record) -> [Way; 4] {
         removed: removed.to_vec(),
         in_runs,
     })
+}
+
+/// Previews the deletions of these ways in the pictures of all iterations, and fails where one would change a pixel; then, in the
+/// fitted picture, the deletion of the face that holds the most pixels.
+fn preview_deletions(scene: &Scene, ways: &[Way], whole: &Record) -> Result<(), Failure> {
+    for way in ways.iter().filter(|way| !way.in_runs) {
+        let counts = previewed(scene, way, whole)?;
+        let deleted = way.removed.len();
+        println!(
+            "faces deleted {deleted:2}, over all iterations: {}",
+            removal::told(&counts)
+        );
+        if counts.emptied + counts.renamed > 0 {
+            return Err(format!("{way}: a pixel would change").into());
+        }
+    }
+    let fitted = &whole[ITERATIONS].0;
+    let (face, held) = removal::largest(fitted.layer.map()).ok_or("nothing is seen")?;
+    let counts = Preview::new(scene, fitted, &[face])?.counts;
+    println!(
+        "face {face} deleted, the largest of the fitted picture: {}\n",
+        removal::told(&counts)
+    );
+    if counts.emptied + counts.renamed != held {
+        return Err("other pixels would change than those that show it".into());
+    }
+    Ok(())
+}
+
+/// The sum over all iterations, each drawn as the fit has drawn it, and no deeper without the faces.
+fn previewed(scene: &Scene, way: &Way, whole: &Record) -> Result<RemovalPreview, Failure> {
+    let mut sum = RemovalPreview::default();
+    for (iteration, (seen, _)) in whole.iter().enumerate() {
+        let preview = Preview::new(scene, seen, &way.removed)?;
+        if preview.full != seen.layer || preview.short.depths() != seen.layer.depths() {
+            return Err(format!("{way}: iteration {iteration} is previewed otherwise").into());
+        }
+        sum.emptied += preview.counts.emptied;
+        sum.renamed += preview.counts.renamed;
+        sum.kept += preview.counts.kept;
+    }
+    Ok(sum)
 }
 
 /// Fits in another way, and fails at the first iteration with a number that is not the whole drawing's.
@@ -177,7 +227,9 @@ mod tests {
         let scene = scene();
         let whole = whole_fit(&scene).expect("every call is accepted");
         assert!(whole[0].1 > 5.0 && whole[ITERATIONS].1 < 0.05);
-        for way in other_ways(&scene, &whole) {
+        let ways = other_ways(&scene, &whole);
+        preview_deletions(&scene, &ways, &whole).expect("no deletion changes a pixel");
+        for way in ways {
             let numbers = same_bits(&scene, &way, &whole).expect("the same bits");
             assert!(numbers > 20_000_000);
         }
@@ -225,5 +277,36 @@ mod tests {
         };
         let other = scene.seen(&pose, &way, 0).expect("accepted");
         assert!(other.compared(&whole, &way).is_err());
+    }
+
+    /// Of each face alone, and of it with all that follow: what the preview tells is what deleting them then does.
+    #[test]
+    fn previews_by_deleting() {
+        let scene = scene();
+        let pose = Pose::seated().moved(&START);
+        let whole = scene.seen(&pose, &Way::default(), 0).expect("accepted");
+        let num_tri = scene.housing.tri2vtx.len() as u32 / 3;
+        let sets = (0..num_tri).flat_map(|face| [vec![face], (face..num_tri).collect()]);
+        let mut sums = [0; 2];
+        for removed in sets {
+            let preview = Preview::new(&scene, &whole, &removed).expect("accepted");
+            let way = Way {
+                removed,
+                in_runs: false,
+            };
+            let deleted = scene.seen(&pose, &way, 0).expect("accepted");
+            assert_eq!(preview.full, whole.layer);
+            assert_eq!(preview.short, deleted.layer);
+            let maps = whole.layer.map().iter().zip(deleted.layer.map());
+            let of_removed = maps.filter(|(before, _)| way.removed.contains(before));
+            let (emptied, renamed): (Vec<_>, Vec<_>) =
+                of_removed.partition(|(_, &after)| after == u32::MAX);
+            let counts = [preview.counts.emptied, preview.counts.renamed];
+            assert_eq!(counts, [emptied.len(), renamed.len()], "{:?}", way.removed);
+            let missed = deleted.compared(&whole, &way).is_err();
+            assert_eq!(missed, counts != [0, 0], "{:?}", way.removed);
+            sums = [sums[0] + counts[0], sums[1] + counts[1]];
+        }
+        assert!(sums.iter().all(|&pixels| pixels > 1_000), "{sums:?}");
     }
 }

@@ -1,11 +1,13 @@
 //! A layer that owns its slices.
-use crate::{clear, join, pix2tri_by_rasterization, Facing, Refusal};
+use crate::{
+    clear, join, pix2tri_by_rasterization, preview_removal, Facing, Refusal, RemovalPreview,
+};
 
 /// A map of face numbers, a depth and three weights for each pixel of an image, row by row from the top.
 ///
-/// The calls [`clear`], [`pix2tri_by_rasterization`] and [`join`] take these as three slices side by side, which are easy to
-/// mix up; a `Layer` owns them, with the image's size, and makes the same calls. Entry p of [`map`](Layer::map),
-/// [`depths`](Layer::depths) and [`weights`](Layer::weights) is of the same pixel.
+/// The calls [`clear`], [`pix2tri_by_rasterization`], [`join`] and [`preview_removal`] take these as three slices side by side,
+/// which are easy to mix up; a `Layer` owns them, with the image's size, and makes the same calls. Entry p of
+/// [`map`](Layer::map), [`depths`](Layer::depths) and [`weights`](Layer::weights) is of the same pixel.
 ///
 /// ```
 /// use paqelzim::{Facing, Layer};
@@ -137,8 +139,7 @@ impl Layer {
     /// # Ok::<(), paqelzim::Refusal>(())
     /// ```
     pub fn join(&mut self, right: &Layer) -> Result<(), Refusal> {
-        // The slices of 3 x 2 and of 2 x 3 have the same lengths.
-        if (self.img_w, self.img_h) != (right.img_w, right.img_h) {
+        if !self.has_the_size_of(right) {
             return Err(Refusal::BufferLength);
         }
         join(
@@ -150,6 +151,66 @@ impl Layer {
             right.pix2weights.as_flattened(),
             self.img_w,
             self.img_h,
+        )
+    }
+
+    /// Tells what taking the marked faces out of a mesh does to its picture, by [`preview_removal`]. What the two scratch layers
+    /// held is gone: `full` holds afterwards the drawing of all faces, and `short` that of the faces that stay.
+    ///
+    /// Questions: [3](Refusal::MeshSize), [4](Refusal::BufferLength): there is a mark for each face, and the two layers are of one
+    /// width and one height, [6](Refusal::VertexNumber). A refused call leaves both as they were.
+    ///
+    /// ```
+    /// use paqelzim::{Layer, Refusal};
+    /// let identity: [f32; 16] = std::array::from_fn(|i| if i % 5 == 0 { 1. } else { 0. });
+    /// let vtx2xyz = [
+    ///     -1., -1., 0.25, 3., -1., 0.25, -1., 3., 0.25, // a face over all of the picture
+    ///     -1., -1., 0.5, 1., -1., 0.5, -1., 1., 0.5, // and one over its lower left half, in front
+    /// ];
+    /// let (mut full, mut short) = (Layer::new(2, 2)?, Layer::new(2, 2)?);
+    /// let mut preview = |removed: &[u8]| {
+    ///     let counts = Layer::preview_removal(
+    ///         &mut full, &mut short, &[0, 1, 2, 3, 4, 5], &vtx2xyz, &identity, removed,
+    ///     )?;
+    ///     Ok::<_, Refusal>([counts.emptied, counts.renamed, counts.kept])
+    /// };
+    /// assert_eq!(preview(&[1, 0])?, [1, 0, 3]);
+    /// assert_eq!(preview(&[0, 1])?, [0, 3, 1]);
+    /// assert_eq!(full.map(), [1, 0, 1, 1]);
+    /// assert_eq!(short.map(), [0; 4]);
+    /// # Ok::<(), Refusal>(())
+    /// ```
+    pub fn preview_removal(
+        full: &mut Layer,
+        short: &mut Layer,
+        tri2vtx: &[u32],
+        vtx2xyz: &[f32],
+        transform_world2ndc: &[f32; 16],
+        removed: &[u8],
+    ) -> Result<RemovalPreview, Refusal> {
+        // Empty slices have the lengths of no image, and the call asks for them in its order.
+        let (pix2tri, pix2depth, pix2weights) = if full.has_the_size_of(short) {
+            (
+                &mut short.pix2tri[..],
+                &mut short.pix2depth[..],
+                short.pix2weights.as_flattened_mut(),
+            )
+        } else {
+            Default::default()
+        };
+        preview_removal(
+            tri2vtx,
+            vtx2xyz,
+            full.img_w,
+            full.img_h,
+            transform_world2ndc,
+            removed,
+            &mut full.pix2tri,
+            &mut full.pix2depth,
+            full.pix2weights.as_flattened_mut(),
+            pix2tri,
+            pix2depth,
+            pix2weights,
         )
     }
 
@@ -179,5 +240,10 @@ impl Layer {
     /// Of the image, in pixels.
     pub fn height(&self) -> usize {
         self.img_h
+    }
+
+    /// Whether both are of one width and one height: the slices of 3 x 2 and of 2 x 3 have the same lengths.
+    fn has_the_size_of(&self, other: &Layer) -> bool {
+        (self.img_w, self.img_h) == (other.img_w, other.img_h)
     }
 }

@@ -42,6 +42,7 @@ mod float_tools;
 mod layer;
 mod layers;
 mod refusal;
+mod removal;
 mod values;
 
 pub use drawing::{drawing_load, pix2tri_by_rasterization, DrawingLoad, Facing};
@@ -50,4 +51,5 @@ pub use float_tools::{hypot_f32, narrow_f64_to_f32, sqrt_f32, sqrt_f64};
 pub use layer::Layer;
 pub use layers::{clear, join};
 pub use refusal::Refusal;
+pub use removal::{preview_removal, RemovalPreview};
 pub use values::{interpolate, interpolate_bwd};

@@ -1,5 +1,5 @@
 //! The layer that owns its slices: the sizes that it takes, and what a refused call leaves.
-use paqelzim::{Facing, Layer, Refusal};
+use paqelzim::{Facing, Layer, Refusal, RemovalPreview};
 
 const IDENTITY: [f32; 16] = [
     1., 0., 0., 0., 0., 1., 0., 0., 0., 0., 1., 0., 0., 0., 0., 1.,
@@ -74,6 +74,47 @@ fn a_refused_mesh_leaves_the_layer() {
             assert_eq!(layer, before, "{refusal}");
         }
     }
+}
+
+/// Of the face twice, at one depth.
+fn preview(full: &mut Layer, short: &mut Layer, removed: &[u8]) -> Result<RemovalPreview, Refusal> {
+    Layer::preview_removal(
+        full,
+        short,
+        &[0, 1, 2, 0, 1, 2],
+        &CORNERS,
+        &IDENTITY,
+        removed,
+    )
+}
+
+#[test]
+fn removals_are_previewed_on_two_layers_of_one_size() {
+    let lent = drawn(3, 2, 0.5);
+    for (w, h) in [(2, 3), (6, 1), (3, 3), (3, 1), (1, 1)] {
+        let other = drawn(w, h, 0.75);
+        for [one, two] in [[&lent, &other], [&other, &lent]] {
+            let (mut full, mut short) = (one.clone(), two.clone());
+            let answer = preview(&mut full, &mut short, &[1, 0]);
+            assert_eq!(answer, Err(Refusal::BufferLength), "{w} × {h}");
+            assert_eq!([&full, &short], [one, two], "{w} × {h}");
+        }
+    }
+    let (mut full, mut short) = (lent.clone(), drawn(3, 2, 0.75));
+    let refused = preview(&mut full, &mut short, &[1]);
+    assert_eq!(refused, Err(Refusal::BufferLength), "a mark is missing");
+    assert_eq!([&full, &short], [&lent, &drawn(3, 2, 0.75)]);
+    let answer = preview(&mut full, &mut short, &[1, 0]);
+    let wanted = RemovalPreview {
+        emptied: 0,
+        renamed: 6,
+        kept: 0,
+    };
+    assert_eq!(answer, Ok(wanted), "by one that takes its number");
+    // both show number 0: the first of two, and the only one
+    assert_eq!(full, short);
+    assert_eq!(full.map(), [0; 6]);
+    assert_eq!(full.depths(), [0.25; 6]);
 }
 
 #[test]

@@ -2,12 +2,13 @@
 //! its cases, and `answered` the answers of the listed Rust where they are accepted, and of 01's questions elsewhere;
 //! comparison/examples/answers.rs and pass_answers.rs wrote them. A word is eight hexadecimal digits, a slice its
 //! length and its words, and a layer three slices: map, depths and weights. A case begins with its call (1 clear, 2 draw,
-//! 3 join, 4 values, 5 values backward, 6 edge types, 7 edges backward, 8 velocities, 9 load), width and height. The answer is
-//! the code, then every buffer that the call writes, a line each, or the load's pieces and pixels.
+//! 3 join, 4 values, 5 values backward, 6 edge types, 7 edges backward, 8 velocities, 9 load, 10 removal), width and height. The
+//! answer is the code, then every buffer that the call writes, a line each, and then the load's pieces and pixels, or the pixels
+//! that a removal empties, renames and keeps.
 
 use paqelzim::{
     bwd, clear, drawing_load, edge_gradient_and_type, interpolate, interpolate_bwd,
-    interpolate_from_edges, join, pix2tri_by_rasterization, Facing, Refusal,
+    interpolate_from_edges, join, pix2tri_by_rasterization, preview_removal, Facing, Refusal,
 };
 
 fn words(text: &str) -> Vec<u32> {
@@ -155,11 +156,32 @@ fn of_load(w: usize, h: usize, asked: &mut Asked) -> Answer {
     Answer::new(load.map(|_| ())).numbers(&[word(counts.pieces), word(counts.pixels)])
 }
 
+/// Call 10.
+fn of_removal(w: usize, h: usize, asked: &mut Asked) -> Answer {
+    let (tri, xyz, m) = (asked.numbers(), asked.floats(), asked.matrix());
+    let marks = asked.bytes();
+    let (mut f0, mut f1, mut f2) = (asked.numbers(), asked.floats(), asked.floats());
+    let (mut s0, mut s1, mut s2) = (asked.numbers(), asked.floats(), asked.floats());
+    let preview = preview_removal(
+        &tri, &xyz, w, h, &m, &marks, &mut f0, &mut f1, &mut f2, &mut s0, &mut s1, &mut s2,
+    );
+    let counts = preview.unwrap_or_default();
+    let counts = [counts.emptied, counts.renamed, counts.kept].map(|count| count as u32);
+    let full = Answer::new(preview.map(|_| ()))
+        .numbers(&f0)
+        .floats(&f1)
+        .floats(&f2);
+    full.numbers(&s0).floats(&s1).floats(&s2).numbers(&counts)
+}
+
+/// How many cases of each call there are.
+type Cases = [usize; 11];
+
 /// Runs every case of a file and compares its answer line by line.
-fn replay(asked: &str, answered: &str, cases: [usize; 10]) {
+fn replay(asked: &str, answered: &str, cases: Cases) {
     let mut asked = Asked(words(asked).into_iter());
     let mut lines = answered.lines();
-    let mut met = [0; 10];
+    let mut met = Cases::default();
     while let Some(call) = asked.0.next() {
         let (w, h) = (asked.size(), asked.size());
         met[call as usize] += 1;
@@ -168,7 +190,8 @@ fn replay(asked: &str, answered: &str, cases: [usize; 10]) {
             4 | 5 => on_values(call, w, h, &mut asked),
             6 | 7 => on_edges(call, w, h, &mut asked),
             8 => on_a_grid(w, h, &mut asked),
-            _ => of_load(w, h, &mut asked),
+            9 => of_load(w, h, &mut asked),
+            _ => of_removal(w, h, &mut asked),
         };
         for ours in answer.0 {
             let stored = words(lines.next().expect("an answer"));
@@ -184,7 +207,7 @@ fn layers_as_stored() {
     replay(
         include_str!("stored/layers.asked"),
         include_str!("stored/layers.answered"),
-        [0, 42, 304, 47, 0, 0, 0, 0, 0, 0],
+        [0, 42, 304, 47, 0, 0, 0, 0, 0, 0, 0],
     );
 }
 
@@ -193,7 +216,7 @@ fn passes_as_stored() {
     replay(
         include_str!("stored/passes.asked"),
         include_str!("stored/passes.answered"),
-        [0, 0, 0, 0, 80, 80, 80, 80, 80, 0],
+        [0, 0, 0, 0, 80, 80, 80, 80, 80, 0, 0],
     );
 }
 
@@ -202,6 +225,15 @@ fn load_as_stored() {
     replay(
         include_str!("stored/load.asked"),
         include_str!("stored/load.answered"),
-        [0, 0, 0, 0, 0, 0, 0, 0, 0, 150],
+        [0, 0, 0, 0, 0, 0, 0, 0, 0, 150, 0],
+    );
+}
+
+#[test]
+fn removal_as_stored() {
+    replay(
+        include_str!("stored/removal.asked"),
+        include_str!("stored/removal.answered"),
+        [0, 0, 0, 0, 0, 0, 0, 0, 0, 0, 90],
     );
 }

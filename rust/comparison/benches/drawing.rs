@@ -1,8 +1,9 @@
-//! The drawing beside the listed Rust's, which keeps no weights, and the load beside the drawing, on one thread in one run:
-//! figures, not a test. Run by `cargo bench --offline -p comparison --bench drawing`.
+//! The drawing beside the listed Rust's, which keeps no weights, the load beside the drawing, and the preview of a removal beside
+//! two drawings, on one thread in one run: figures, not a test. Run by `cargo bench --offline -p comparison --bench drawing`.
 use comparison::expected::cleared;
 use comparison::layer::Layer;
 use comparison::random::Random;
+use comparison::removal::Removal;
 use comparison::scene::Scene;
 use comparison::timing::least;
 
@@ -178,6 +179,59 @@ fn load_at_two_sizes(count: usize, sides: [usize; 2]) {
     );
 }
 
+fn preview(removal: &mut Removal) {
+    let counts = removal.preview().expect("the removal is accepted");
+    std::hint::black_box(counts);
+}
+
+/// What the preview does, by hand: a clear and a drawing of each list, the shortened one made beforehand.
+fn two_drawings(shortened: &[u32], removal: &mut Removal) {
+    let scene = &mut removal.scene;
+    let mut full = std::mem::take(&mut scene.layer);
+    let lists = [
+        (&mut full, &scene.tri2vtx[..]),
+        (&mut removal.short, shortened),
+    ];
+    for (layer, list) in lists {
+        layer
+            .clear(scene.img_w, scene.img_h)
+            .expect("the size is accepted");
+        layer.draw(scene, list, 0).expect("the mesh is accepted");
+    }
+    scene.layer = full;
+}
+
+fn preview_beside_two_drawings(name: &str, scene: &Scene) {
+    let random = &mut Random::new(7);
+    let mut removal = Removal {
+        scene: scene.clone(),
+        removed: vec![0; scene.tri2vtx.len() / 3],
+        short: scene.layer.clone(),
+    };
+    let mut one_in_100 = |_| u8::from(random.percent(1));
+    let marks: [(&str, &mut dyn FnMut(u32) -> u8); 4] = [
+        ("none", &mut |_| 0),
+        ("one in 100", &mut one_in_100),
+        ("every second", &mut |face| (face % 2) as u8),
+        ("all", &mut |_| 255),
+    ];
+    for (which, mark) in marks {
+        removal = removal.marked(mark);
+        let shortened = removal.shortened();
+        let mut twice = |removal: &mut Removal| two_drawings(&shortened, removal);
+        let (mut one, mut two) = (removal.clone(), removal.clone());
+        preview(&mut one);
+        twice(&mut two);
+        assert!(one.bits() == two.bits(), "the same drawings");
+        let times = least(&removal, &mut [&mut preview, &mut twice]);
+        let ratio = times[0] / times[1];
+        println!(
+            "preview of {name:<23}{which:<13}{:>8.2} ms, two drawings {:>8.2} ms, ratio {ratio:.2}",
+            times[0], times[1]
+        );
+    }
+}
+
 fn main() {
     let small = mesh(50_000, 512, (3.0, 20.0), 0.0);
     draw("50,000 small faces at 512 × 512", &small);
@@ -203,4 +257,9 @@ fn main() {
     load_beside_drawing("50,000 small faces", &small);
     load_beside_drawing("a ball of 1,000,000 tiny faces", &million);
     load_at_two_sizes(100_000, [4096, 64]);
+    println!();
+    preview_beside_two_drawings("50,000 small faces", &small);
+    preview_beside_two_drawings("a ball of 50,000 faces", &closed);
+    preview_beside_two_drawings("100 large faces", &large);
+    preview_beside_two_drawings("200,000 tiny faces", &tiny);
 }

@@ -1,6 +1,6 @@
-//! Writes the stored cases rust/tests/stored/layers and load: `asked`, the arguments of each call, and `answered`, its answer, by the
-//! listed Rust with the weights kept where a scene is accepted and by 01's and 02's words (`expected`) elsewhere. A layer is three
-//! lines, asked and answered: map, depths and weights, three a pixel. Run at the root of the
+//! Writes the stored cases rust/tests/stored/layers, load and removal: `asked`, the arguments of each call, and `answered`, its
+//! answer, by the listed Rust with the weights kept where a scene is accepted and by 01's and 02's words (`expected`) elsewhere. A
+//! layer is three lines, asked and answered: map, depths and weights, three a pixel. Run at the root of the
 //! repository by `cargo run --release --offline --manifest-path rust/Cargo.toml -p comparison --example answers`.
 //! A number after `--` gives another count of scenes than 300.
 
@@ -19,17 +19,24 @@ fn main() -> std::io::Result<()> {
     cases.write("layers")?;
     let mut cases = comparison::stored::Cases::default();
     layers::loads(&mut cases, count / 2);
-    cases.write("load")
+    cases.write("load")?;
+    let mut cases = comparison::stored::Cases::default();
+    layers::removals(&mut cases, count * 3 / 10);
+    cases.write("removal")
 }
 
 #[cfg(listed)]
 mod layers {
-    use comparison::expected::{clear_code, cleared, draw_code, join_code, joined, load_code};
+    use comparison::expected::{
+        clear_code, cleared, draw_code, join_code, joined, load_code, preview_code,
+    };
     use comparison::layer::{any_weights, wrong_lengths, Layer};
     use comparison::random::Random;
     use comparison::reference;
+    use comparison::removal::{counted, removal, Removal};
     use comparison::scene::{scene, Scene};
-    use comparison::stored::{answer_floats, answer_numbers, floats, line, numbers, Cases};
+    use comparison::stored::{answer_floats, answer_numbers, bytes, floats, line, numbers, Cases};
+    use paqelzim::RemovalPreview;
 
     /// The longest slice that is stored.
     const ROOM: usize = 64;
@@ -130,6 +137,53 @@ mod layers {
             let head = [9, scene.img_w as u32, scene.img_h as u32];
             cases.add(&head, &asked, code, &[answered]);
         }
+    }
+
+    /// Of six removals two that empty a pixel, two others that rename one, one that does neither, one refused.
+    pub fn removals(cases: &mut Cases, count: usize) {
+        let mut left = [count / 3, count / 3, count / 6, count / 6];
+        for removal in (0..).map(removal).filter(|removal| fits(&removal.scene)) {
+            if left == [0; 4] {
+                return;
+            }
+            let code = preview_code(&removal);
+            let (counts, after) = previewed(&removal);
+            let kind = match (code, counts) {
+                (0, RemovalPreview { emptied: 1.., .. }) => 0,
+                (0, RemovalPreview { renamed: 1.., .. }) => 1,
+                (0, _) => 2,
+                _ => 3,
+            };
+            if left[kind] == 0 {
+                continue;
+            }
+            left[kind] -= 1;
+            let scene = &removal.scene;
+            let asked = [
+                numbers(&scene.tri2vtx),
+                floats(&scene.vtx2xyz),
+                line(scene.transform_world2ndc.map(f32::to_bits)),
+                bytes(&removal.removed),
+                asked(&scene.layer),
+                asked(&removal.short),
+            ];
+            let counts = [counts.emptied, counts.renamed, counts.kept].map(|count| count as u32);
+            let answered = [&after[0], &after[1]].map(|layer| answered(layer).concat());
+            let answered = [answered.concat(), answer_numbers(&counts)];
+            let head = [10, scene.img_w as u32, scene.img_h as u32];
+            cases.add(&head, &asked, code, &answered);
+        }
+    }
+
+    /// The counts and both layers after the call: none, and as they were, where that is refused.
+    fn previewed(removal: &Removal) -> (RemovalPreview, [Layer; 2]) {
+        if preview_code(removal) != 0 {
+            let lent = [removal.scene.layer.clone(), removal.short.clone()];
+            return (RemovalPreview::default(), lent);
+        }
+        let drawn = reference::drawn_twice(removal);
+        let maps = [&drawn[0].pix2tri, &drawn[1].pix2tri];
+        (counted(&removal.staying(), maps[0], maps[1]), drawn)
     }
 
     fn clear(cases: &mut Cases, layer: &Layer, (w, h): (usize, usize)) {

@@ -1,6 +1,7 @@
 //! The questions of 01, and clearing and joining, of the layer that 02 gives weights (Point 9), read into Rust a second time.
 use crate::layer::{Cell, Layer};
 use crate::pass::{Pass, Velocities};
+use crate::removal::Removal;
 use crate::scene::{Scene, EMPTY, MOST};
 use del_geo_core::mat4_col_major::transform_homogeneous;
 
@@ -62,6 +63,19 @@ pub fn load_code(scene: &Scene) -> u32 {
     first_no(&[
         (1, &|| size_is_asked(scene.img_w, scene.img_h)),
         (3, &|| mesh_is_whole(&scene.tri2vtx, &scene.vtx2xyz)),
+        (6, &|| faces_name_vertices(&scene.tri2vtx, &scene.vtx2xyz)),
+    ])
+}
+
+pub fn preview_code(removal: &Removal) -> u32 {
+    let scene = &removal.scene;
+    let (w, h) = (scene.img_w, scene.img_h);
+    first_no(&[
+        (1, &|| size_is_asked(w, h)),
+        (3, &|| mesh_is_whole(&scene.tri2vtx, &scene.vtx2xyz)),
+        (4, &|| 3 * removal.removed.len() == scene.tri2vtx.len()),
+        (4, &|| layer_is_exact(&scene.layer, w, h)),
+        (4, &|| layer_is_exact(&removal.short, w, h)),
         (6, &|| faces_name_vertices(&scene.tri2vtx, &scene.vtx2xyz)),
     ])
 }

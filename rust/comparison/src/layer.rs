@@ -37,6 +37,15 @@ pub fn bits(floats: &[f32]) -> Vec<u32> {
     floats.iter().map(|x| x.to_bits()).collect()
 }
 
+/// The bits of the map, the depths and the weights of the package's own layer.
+pub fn owned_bits(layer: &paqelzim::Layer) -> [Vec<u32>; 3] {
+    [
+        layer.map().to_vec(),
+        bits(layer.depths()),
+        bits(layer.weights().as_flattened()),
+    ]
+}
+
 impl FromIterator<Cell> for Layer {
     fn from_iter<T: IntoIterator<Item = Cell>>(cells: T) -> Self {
         let (pix2tri, (pix2depth, weights)): (_, (_, Vec<[f32; 3]>)) =

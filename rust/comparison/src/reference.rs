@@ -2,6 +2,7 @@
 use crate::expected::cleared;
 use crate::layer::Layer;
 use crate::pass::{Pass, Velocities};
+use crate::removal::Removal;
 use crate::scene::{Scene, EMPTY};
 use std::cell::{Cell, RefCell};
 use std::collections::BTreeMap;
@@ -288,6 +289,21 @@ pub fn drawn(scene: &Scene) -> Drawn {
         crate::pix2tri_counting::pix2tri_by_rasterization::<u32>,
         scene,
     )
+}
+
+/// The full list of an accepted removal and the shortened one drawn so, each on a clear layer and numbered from 0.
+pub fn drawn_twice(removal: &Removal) -> [Layer; 2] {
+    let scene = &removal.scene;
+    [scene.tri2vtx.clone(), removal.shortened()].map(|tri2vtx| {
+        let alone = Scene {
+            layer: cleared(scene.img_w * scene.img_h),
+            tri2vtx,
+            vtx2xyz: scene.vtx2xyz.clone(),
+            first: 0,
+            ..*scene
+        };
+        drawn(&alone).layer
+    })
 }
 
 /// The same by the file as it is listed, which has no weights: map and depths.

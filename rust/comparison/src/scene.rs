@@ -5,6 +5,15 @@ use crate::random::Random;
 
 pub const EMPTY: u32 = u32::MAX;
 pub const MOST: u32 = 1_048_576;
+/// Widths and heights at the ends of what question 1 allows, with its answer.
+pub const SIZES: [(usize, usize, u32); 6] = [
+    (4096, 1, 0),
+    (1, 4096, 0),
+    (4097, 1, 1),
+    (1, 4097, 1),
+    (0, 1, 1),
+    (1, 0, 1),
+];
 /// Depths that faces share.
 const DEPTHS: [f32; 4] = [0.25, 0.5, -0.5, 0.0];
 

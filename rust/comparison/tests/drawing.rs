@@ -2,28 +2,15 @@
 //! source is found, the listed Rust, bit for bit on 200,000 scenes: of all faces beside the file as it is listed and the one that
 //! keeps the weights, and of front pieces beside the one in which each candidate is asked how it faces, and which keeps them too.
 use comparison::expected::draw_code;
-use comparison::layer::{any_weights, bits, wrong_lengths, Left};
+use comparison::layer::{any_weights, wrong_lengths, Left};
+use comparison::margins::Lent;
 use comparison::random::Random;
-use comparison::scene::{scene, Scene, MOST};
+use comparison::scene::{scene, Scene, MOST, SIZES};
 
 const SCENES: u64 = 200_000;
 /// Scenes of larger images and some hundred faces.
 #[cfg(listed)]
 const CROWDED: u64 = 2_000;
-/// Places before and after each lent buffer, which no call may touch.
-const MARGIN: usize = 5;
-/// What they hold; as a float it is a signalling NaN.
-const MARK: u32 = 0x7fa1_b2c3;
-
-fn with_margins<T: Copy>(values: &[T], mark: T) -> Vec<T> {
-    let margin = [mark; MARGIN];
-    [&margin, values, &margin].concat()
-}
-
-fn inside<T>(values: &mut [T]) -> &mut [T] {
-    let end = values.len() - MARGIN;
-    &mut values[MARGIN..end]
-}
 
 extern "C" {
     fn paqelzim_pix2tri_by_rasterization(
@@ -78,22 +65,10 @@ fn packaged(scene: &Scene) -> Left {
 
 /// The drawing as C makes it, which the package's is held to.
 fn drawn(scene: &Scene) -> Left {
-    let mark = f32::from_bits(MARK);
-    let mut numbers = with_margins(&scene.layer.pix2tri, MARK);
-    let mut depths = with_margins(&scene.layer.pix2depth, mark);
-    let mut weights = with_margins(&scene.layer.pix2weights, mark);
-    let code = called(
-        scene,
-        inside(&mut numbers),
-        inside(&mut depths),
-        inside(&mut weights),
-    );
-    let buffers = [numbers, bits(&depths), bits(&weights)].map(|mut all| {
-        let buffer = inside(&mut all).to_vec();
-        assert_eq!(all, with_margins(&buffer, MARK), "beside a buffer");
-        buffer
-    });
-    let answer = (code, buffers);
+    let mut lent = Lent::new(&scene.layer);
+    let (numbers, depths, weights) = lent.buffers();
+    let code = called(scene, numbers, depths, weights);
+    let answer = (code, lent.bits());
     assert_eq!(packaged(scene), answer, "the package's {scene:?}");
     answer
 }
@@ -391,14 +366,7 @@ fn every_number_but_0_asks_for_front_pieces() {
 
 #[test]
 fn widths_and_heights_to_4096() {
-    for (w, h, wanted) in [
-        (4096, 1, 0),
-        (1, 4096, 0),
-        (4097, 1, 1),
-        (1, 4097, 1),
-        (0, 1, 1),
-        (1, 0, 1),
-    ] {
+    for (w, h, wanted) in SIZES {
         let mut scene = scene(1);
         (scene.img_w, scene.img_h, scene.first) = (w, h, 0);
         scene.layer = std::iter::repeat_n((3, 0.5, [0.25; 3]), w * h).collect();

@@ -1,6 +1,6 @@
 //! Clearing and joining beside 01's and 02's words, with every length by one and NaN payloads kept, and the package's own `Layer`.
 use comparison::expected::{clear_code, cleared, join_code, joined};
-use comparison::layer::{any_weights, bits, wrong_lengths, Layer, Left};
+use comparison::layer::{any_weights, owned_bits, wrong_lengths, Layer, Left};
 use comparison::random::Random;
 use comparison::scene::{scene, Scene};
 use paqelzim::Refusal;
@@ -140,12 +140,7 @@ struct Both {
 impl Both {
     fn are_alike(&self, scene: &Scene) {
         let owned = &self.owned;
-        let bits = [
-            owned.map().to_vec(),
-            bits(owned.depths()),
-            bits(owned.weights().as_flattened()),
-        ];
-        assert_eq!(bits, self.slices.bits(), "{scene:?}");
+        assert_eq!(owned_bits(owned), self.slices.bits(), "{scene:?}");
         assert_eq!((owned.width(), owned.height()), (scene.img_w, scene.img_h));
     }
 

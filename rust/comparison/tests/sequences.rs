@@ -6,6 +6,7 @@ use comparison::expected::cleared;
 use comparison::layer::{bits, wrong_lengths, Layer};
 use comparison::pass::{beside_the_map, Pass};
 use comparison::random::Random;
+use comparison::removal::list_of;
 use comparison::scene::{accepted, crowded, Scene, EMPTY};
 use paqelzim::Refusal;
 
@@ -228,19 +229,15 @@ fn drawn_whole(random: &mut Random, scene: &Scene) -> Layer {
 /// Takes out none, some or all of the faces that hold no pixel: the kept ones, and the map renumbered.
 fn thinned(random: &mut Random, scene: &Scene, full: &Layer) -> (Vec<u32>, Vec<u32>) {
     let share = random.one_of(&[0, 50, 100]);
-    let faces = scene.tri2vtx.as_chunks::<3>().0;
-    let keep: Vec<bool> = (0..faces.len() as u32)
-        .map(|face| full.pix2tri.contains(&face) || !random.percent(share))
-        .collect();
-    let kept = (0..faces.len())
-        .filter(|&face| keep[face])
-        .flat_map(|face| faces[face]);
+    let stays = |face: &u32| full.pix2tri.contains(face) || !random.percent(share);
+    let faces = scene.tri2vtx.len() as u32 / 3;
+    let staying: Vec<u32> = (0..faces).filter(stays).collect();
     let renumber = |&entry: &u32| match entry {
         EMPTY => EMPTY,
-        face => keep[..face as usize].iter().filter(|&&k| k).count() as u32,
+        face => staying.iter().filter(|&&before| before < face).count() as u32,
     };
     let renumbered = full.pix2tri.iter().map(renumber).collect();
-    (kept.collect(), renumbered)
+    (list_of(&scene.tri2vtx, &staying), renumbered)
 }
 
 /// The passes over the full drawing, and over the thinned list and its map.

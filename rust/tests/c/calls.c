@@ -193,6 +193,10 @@ static void velocities(void) {
 
 static int weights_are(const float *x, float b0, float b1, float b2) { return x[0] == b0 && x[1] == b1 && x[2] == b2; }
 
+/* Of a face with the corners of T(0.25), at each pixel of 2 x 2. */
+static const float of_corners[12] = {0.5f, 0.125f, 0.375f, 0.25f, 0.375f, 0.375f,
+                                     0.75f, 0.125f, 0.125f, 0.5f, 0.375f, 0.125f};
+
 /* A layer of 2 x 2. */
 typedef struct {
     uint32_t tri[4];
@@ -224,10 +228,7 @@ static void drawing(void) {
     for (p = 0; p < 4; p += 1) {
         expect(layer.tri[p] == 7 && layer.depth[p] == 0.25f, "four pixels");
     }
-    expect(weights_are(layer.weights, 0.5f, 0.125f, 0.375f), "weights of the first pixel");
-    expect(weights_are(layer.weights + 3, 0.25f, 0.375f, 0.375f), "of the second");
-    expect(weights_are(layer.weights + 6, 0.75f, 0.125f, 0.125f), "of the third");
-    expect(weights_are(layer.weights + 9, 0.5f, 0.375f, 0.125f), "of the last");
+    expect(memcmp(layer.weights, of_corners, sizeof of_corners) == 0, "weights of each pixel");
     /* the same corners in another order bring an equal depth, which is not greater */
     expect(drawn(&layer, turned, 3, 8, 0) == 0, "drawn once more");
     expect(layer.tri[0] == 7 && weights_are(layer.weights, 0.5f, 0.125f, 0.375f), "an equal depth leaves the weights");
@@ -317,6 +318,84 @@ static void load(void) {
     expect(answer.code == 1 && answer.pieces == 0 && answer.pixels == 0, "a load refused with 1");
 }
 
+/* T(0.25) and T(0.5) with these marks, on two layers of 2 x 2, or as wide as is said. Of the nine lengths, those of the faces,
+ * the vertices, the marks and the two layers, the one with that number is told one short; 9 is none of them. */
+static paqelzim_RemovalPreview previewed(Layer *full, Layer *left, const uint32_t *faces, const uint8_t *marks, size_t img_w,
+                                         int one_short) {
+    static const float corner[18] = {-1.0f, -1.0f, 0.25f, 3.0f, -1.0f, 0.25f, -1.0f, 3.0f, 0.25f,
+                                     -1.0f, -1.0f, 0.50f, 3.0f, -1.0f, 0.50f, -1.0f, 3.0f, 0.50f};
+    size_t n[10] = {6, 18, 2, 4, 4, 12, 4, 4, 12, 1};
+    size_t p;
+    n[one_short] -= 1;
+    for (p = 0; p < 4; p += 1) {
+        full->tri[p] = left->tri[p] = 5;
+    }
+    fill(full->depth, 4, 0x7fa00001u);
+    fill(left->depth, 4, 0x7fa00001u);
+    fill(full->weights, 12, 0xffa00003u);
+    fill(left->weights, 12, 0xffa00003u);
+    return paqelzim_preview_removal(faces, n[0], corner, n[1], img_w, 2, identity, marks, n[2],
+                                    full->tri, n[3], full->depth, n[4], full->weights, n[5],
+                                    left->tri, n[6], left->depth, n[7], left->weights, n[8]);
+}
+
+static int counts_are(const paqelzim_RemovalPreview *answer, size_t emptied, size_t renamed, size_t kept) {
+    return answer->emptied == emptied && answer->renamed == renamed && answer->kept == kept;
+}
+
+static int is_full_of(const Layer *layer, uint32_t number, uint32_t depth_bits) {
+    int p, same = all_are(layer->depth, 4, depth_bits);
+    for (p = 0; p < 4; p += 1) {
+        same = same && layer->tri[p] == number;
+    }
+    return same;
+}
+
+/* The four pixels have one fate. The full layer shows that face at 0.5; what is left shows that one, so deep, or nothing. */
+static void preview(const uint32_t *faces, uint8_t mark0, uint8_t mark1, const size_t *counts, uint32_t shown, uint32_t number,
+                    uint32_t depth_bits, const char *what) {
+    const uint8_t marks[2] = {mark0, mark1};
+    Layer full, left;
+    paqelzim_RemovalPreview answer = previewed(&full, &left, faces, marks, 2, 9);
+    expect(answer.code == 0 && counts_are(&answer, counts[0], counts[1], counts[2]), what);
+    expect(is_full_of(&full, shown, 0x3f000000u) && is_full_of(&left, number, depth_bits), what);
+    expect(memcmp(full.weights, of_corners, sizeof of_corners) == 0, what);
+    expect(number == 4294967295u ? all_are(left.weights, 12, 0u) : memcmp(left.weights, of_corners, sizeof of_corners) == 0, what);
+}
+
+/* Every field but the code is 0, and nothing is written. */
+static void no_preview(const uint32_t *faces, size_t img_w, int one_short, uint32_t code, const char *what) {
+    const uint8_t marks[2] = {1, 0};
+    Layer full, left;
+    paqelzim_RemovalPreview answer = previewed(&full, &left, faces, marks, img_w, one_short);
+    expect(answer.code == code && counts_are(&answer, 0, 0, 0), what);
+    expect(is_full_of(&full, 5, 0x7fa00001u) && is_full_of(&left, 5, 0x7fa00001u), what);
+    expect(all_are(full.weights, 12, 0xffa00003u) && all_are(left.weights, 12, 0xffa00003u), what);
+}
+
+static void removal(void) {
+    static const uint32_t faces[6] = {0, 1, 2, 3, 4, 5}, front_first[6] = {3, 4, 5, 0, 1, 2}, bad[6] = {0, 1, 6, 3, 4, 5};
+    const uint8_t mark[3] = {1, 2, 255};
+    const size_t emptied[3] = {4, 0, 0}, renamed[3] = {0, 4, 0}, kept[3] = {0, 0, 4};
+    int k;
+    preview(faces, 0, 0, kept, 1, 1, 0x3f000000u, "nothing is removed");
+    for (k = 0; k < 3; k += 1) {
+        preview(faces, mark[k], 0, kept, 1, 0, 0x3f000000u, "the hidden face is removed, and the shown one numbered anew");
+        preview(faces, 0, mark[k], renamed, 1, 0, 0x3e800000u, "the shown face is removed");
+        preview(faces, mark[k], 255, emptied, 1, 4294967295u, 0xff800000u, "both are removed");
+        preview(front_first, mark[k], 0, renamed, 0, 0, 0x3e800000u, "the shown face is removed, and the next has its number");
+        preview(front_first, 0, mark[k], kept, 0, 0, 0x3f000000u, "the hidden face is removed after the shown one");
+    }
+    no_preview(faces, 4097, 9, 1, "a preview refused with 1");
+    no_preview(faces, 2, 0, 3, "faces one short");
+    no_preview(faces, 2, 1, 3, "vertices one short");
+    for (k = 2; k < 9; k += 1) {
+        no_preview(faces, 2, k, 4, "marks or a buffer one short");
+        no_preview(bad, 2, k, 4, "and a vertex that is not there");
+    }
+    no_preview(bad, 2, 9, 6, "a vertex that is not there, of a face that is removed");
+}
+
 int main(void) {
     float_tools();
     nans();
@@ -330,5 +409,6 @@ int main(void) {
     cut();
     facing();
     load();
+    removal();
     return wrong == 0 ? 0 : 1;
 }
