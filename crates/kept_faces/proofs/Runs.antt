@@ -77,9 +77,9 @@ module _ (sc : Scene) (keep : ℕ → Bool) where
   left-all fs l s = record { number = omega arith; spans = s; is = refl }
 
   -- a run drawn
-  pub left-less : (tri : List ℕ) (l cur new : Layer) (i end k : ℕ) → Run keep (length tri / 3) i end → Left sc keep (facesOf tri) l cur i k → new ≡ drawn sc (facesOf (part i end tri)) k cur
+  pub left-less : (tri : List ℕ) (l cur new : Layer) (i end k : ℕ) → 3 * (length tri / 3) ≡ length tri → Run keep (length tri / 3) i end → Left sc keep (facesOf tri) l cur i k → new ≡ drawn sc (facesOf (part i end tri)) k cur
       → Left sc keep (facesOf tri) l new (end + 1) (k + (end - i))
-  left-less tri l cur new i end k r t e =
+  left-less tri l cur new i end k whole-threes r t e =
       let a = r .forward in
       let run : Run keep (length (facesOf tri)) i end = rw (length-faces tri) r in
       let rest = keptFrom keep (end + 1) (drop (end + 1) (facesOf tri)) in
@@ -88,7 +88,7 @@ module _ (sc : Scene) (keep : ℕ → Bool) where
         number = omega (arith, t .number);
         spans = rw e (spans-drawn sc (facesOf (part i end tri)) k cur);
         is =
-            ap (drawn sc rest (k + (end - i))) (e ∙ ap (λ (fs : List Face). drawn sc fs k cur) (faces-part i end tri))
+            ap (drawn sc rest (k + (end - i))) (e ∙ ap (λ (fs : List Face). drawn sc fs k cur) (faces-part i end tri whole-threes))
             ∙ ap (λ (n : ℕ). drawn sc rest (k + n) (drawn sc (take (end - i) (drop i (facesOf tri))) k cur)) (sym length-run)
             ∙ sym (drawn-append sc (take (end - i) (drop i (facesOf tri))) rest k cur)
             ∙ ap (λ (fs : List Face). drawn sc fs k cur) (sym (kept-run keep (facesOf tri) run))

@@ -20,7 +20,7 @@ use Rattle.geometry.specs.Answer.{projectionOf}
 use Rattle.geometry.specs.declared.Projection.{Projection}
 use Rattle.questions.specs.Questions.{allBelow, namesFace, namesFaces, empty, mostCount}
 use Rattle.questions.specs.Laws.{Sized, Grouped, whole, below-at}
-use Rattle.meshes.specs.Mesh.{Face, face, faceAt, facesOf}
+use Rattle.meshes.specs.Mesh.{Face, face, faceAt, facesOf, flat}
 use Rattle.meshes.specs.View.{named, entryAt}
 use Rattle.meshes.specs.Sums.{Addition, added, summed}
 use Rattle.meshes.specs.Sound.{SoundMesh, SoundMap}
@@ -59,7 +59,7 @@ length-faces (a ∷ b ∷ c ∷ tri) = omega (arith, length-faces tri)
 shift : (a b c : ℕ) (tri : List ℕ) (j k : ℕ) → suc (suc (suc j)) ≡ k → getD tri j 0 ≡ getD (a ∷ b ∷ c ∷ tri) k 0
 shift a b c tri j k e = ap (λ (i : ℕ). getD (a ∷ b ∷ c ∷ tri) i 0) e
 
-face-get : (tri : List ℕ) (i : ℕ) (z : Face) → i < length tri / 3 → getD (facesOf tri) i z ≡ faceAt tri i
+pub face-get : (tri : List ℕ) (i : ℕ) (z : Face) → i < length tri / 3 → getD (facesOf tri) i z ≡ faceAt tri i
 unfolding facesOf faceAt
 face-get [] i z h = absurd (not-suc-le-zero h)
 face-get (a ∷ []) i z h = absurd (not-suc-le-zero h)
@@ -80,35 +80,54 @@ faces-from tri i h =
     (drop-cons (facesOf tri) i (face 0 0 0) (omega (arith, length-faces tri))
     ∙ ap (λ (f : Face). f ∷ drop (suc i) (facesOf tri)) (face-get tri i (face 0 0 0) h))
 
--- ---- a part of the list, as the code lends it: the faces from number `from` up to `to`
+-- ---- a list of faces as a slice
+
+pub length-flat : (fs : List Face) → length (flat fs) ≡ 3 * length fs
+unfolding flat
+length-flat [] = refl
+length-flat (f ∷ fs) = let e = length-flat fs in omega arith
+
+pub faces-flat : (fs : List Face) → facesOf (flat fs) ≡ fs
+unfolding flat facesOf
+faces-flat [] = refl
+faces-flat (f ∷ fs) = ap (λ (l : List Face). f ∷ l) (faces-flat fs)
+
+-- whole threes come back
+pub flat-faces : (n : ℕ) (tri : List ℕ) → length tri ≡ 3 * n → flat (facesOf tri) ≡ tri
+unfolding flat facesOf
+flat-faces n [] e = refl
+flat-faces n (a ∷ []) e = absurd (omega arith)
+flat-faces n (a ∷ b ∷ []) e = absurd (omega arith)
+flat-faces zero (a ∷ b ∷ c ∷ tri) e = absurd (omega arith)
+flat-faces (suc n) (a ∷ b ∷ c ∷ tri) e = ap (λ (l : List ℕ). a ∷ b ∷ c ∷ l) (flat-faces n tri (omega arith))
 
 three : (n : ℕ) → 3 * suc n ≡ suc (suc (suc (3 * n)))
 three n = omega arith
 
-faces-drop : (n : ℕ) (tri : List ℕ) → facesOf (drop (3 * n) tri) ≡ drop n (facesOf tri)
-unfolding facesOf
-faces-drop zero tri = refl
-faces-drop (suc n) [] = rw (three n)
-faces-drop (suc n) (a ∷ []) = rw (three n)
-faces-drop (suc n) (a ∷ b ∷ []) = rw (three n)
-faces-drop (suc n) (a ∷ b ∷ c ∷ tri) = rw (three n) (faces-drop n tri)
+pub flat-take : (c : ℕ) (fs : List Face) → take (3 * c) (flat fs) ≡ flat (take c fs)
+unfolding flat
+flat-take zero fs = refl
+flat-take (suc c) [] = rw (three c)
+flat-take (suc c) (f ∷ fs) =
+    rw (three c) (ap (λ (l : List ℕ). f .v0 ∷ f .v1 ∷ f .v2 ∷ l) (flat-take c fs))
 
-faces-take : (n : ℕ) (tri : List ℕ) → facesOf (take (3 * n) tri) ≡ take n (facesOf tri)
-unfolding facesOf
-faces-take zero tri = refl
-faces-take (suc n) [] = rw (three n)
-faces-take (suc n) (a ∷ []) = rw (three n)
-faces-take (suc n) (a ∷ b ∷ []) = rw (three n)
-faces-take (suc n) (a ∷ b ∷ c ∷ tri) = rw (three n) (ap (λ (fs : List Face). face a b c ∷ fs) (faces-take n tri))
+pub flat-drop : (c : ℕ) (fs : List Face) → drop (3 * c) (flat fs) ≡ flat (drop c fs)
+unfolding flat
+flat-drop zero fs = refl
+flat-drop (suc c) [] = rw (three c)
+flat-drop (suc c) (f ∷ fs) = rw (three c) (flat-drop c fs)
+
+-- ---- a part of the list, as the code lends it: the faces from number `from` up to `to`
 
 module _ (from to : ℕ) where
   abbrev pub part : List ℕ → List ℕ
   part tri = take (3 * to - 3 * from) (drop (3 * from) tri)
 
-  pub faces-part : (tri : List ℕ) → facesOf (part tri) ≡ take (to - from) (drop from (facesOf tri))
-  faces-part tri =
+  pub faces-part : (tri : List ℕ) → 3 * (length tri / 3) ≡ length tri → facesOf (part tri) ≡ take (to - from) (drop from (facesOf tri))
+  faces-part tri whole-threes =
       let threes : 3 * to - 3 * from ≡ 3 * (to - from) = omega arith in
-      rw (threes, faces-take (to - from) (drop (3 * from) tri), faces-drop from tri)
+      ap (λ (t : List ℕ). facesOf (part t)) (sym (flat-faces (length tri / 3) tri (sym whole-threes)))
+      ∙ rw (threes, flat-drop from (facesOf tri), flat-take (to - from) (drop from (facesOf tri))) (faces-flat (take (to - from) (drop from (facesOf tri))))
 
   pub length-part : (tri : List ℕ) → to ≤ length tri / 3 → length (part tri) ≡ 3 * to - 3 * from
   length-part tri h = length-take-le (3 * to - 3 * from) (drop (3 * from) tri) (omega (arith, length-drop (3 * from) tri))

@@ -1,7 +1,7 @@
 -- What an accepted call of `preview_removal` knows, and the outcome of a refused and of an accepted one.
 use Prim.Native.Nat.{ℕ, _*_, _/_, _≤_}
 use mathlib.Core.Path.{_≡_, ap, ap₂, sym, _∙_}
-use mathlib.Core.List.{List}
+use mathlib.Core.List.{List, []}
 use native.Mathlib.Omega.{arith}
 use lib.ListN.{length}
 use lib.Ieee.{Float}
@@ -28,12 +28,12 @@ module _ (tri : List ℕ) (xyz : List Float) (w h : ℕ) (removed : List ℕ) (f
   module _ (accepted : removalCode tri xyz w h removed full short ≡ 0) where
     mesh : SoundMesh tri xyz × (length tri / 3 ≤ mostCount)
     mesh =
-        let a = asked tri xyz w h removed full short accepted .mesh xyz in
+        let a = asked tri xyz w h removed full short accepted .mesh [] in
         let faces = grouped 3 mostCount (length tri) (a .faces) in
         (sound-mesh faces (grouped 3 mostCount (length xyz) (a .vertices)) (a .corners), faces .most)
 
     size : Sized 1 w h
-    size = sized 1 w h (asked tri xyz w h removed full short accepted .mesh xyz .sized)
+    size = sized 1 w h (asked tri xyz w h removed full short accepted .mesh [] .sized)
 
     pub full-ready : Sized 1 w h × (Spans full (w * h) × (SoundMesh tri xyz × (length tri / 3 ≤ mostCount)))
     full-ready = (size, (asked tri xyz w h removed full short accepted .full-spans, mesh))

@@ -1,3 +1,2 @@
 -- Lemmas that the proofs cite.
-pub mod Cleared
 pub mod Accepted

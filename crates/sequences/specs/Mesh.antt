@@ -1,5 +1,5 @@
 -- An accepted mesh, thinned and cut: every run of it is accepted.
-use Prim.Native.Nat.{ℕ, zero, suc, _+_, _*_, _/_, _<_, _≤_}
+use Prim.Native.Nat.{ℕ, zero, suc, _+_, _/_, _<_, _≤_}
 use mathlib.Core.Path.{_≡_, refl, ap, sym, _∙_}
 use mathlib.Core.Bool.{Bool, true, false, cond, _&&_}
 use mathlib.Core.List.{List, [], _∷_, _++_}
@@ -16,10 +16,11 @@ use Rattle.offers.specs.Laws.Thinning.{kept-length}
 use Rattle.cells.specs.Layer.{Layer}
 use Rattle.layers.specs.Calls.{exactLayer}
 use Rattle.meshes.specs.Mesh.{Face, facesOf, faceAt, flat}
+use Rattle.meshes.specs.Laws.{face-get, length-flat, faces-flat, flat-faces}
 use Rattle.rules.specs.Offers.{Scene}
 use Rattle.rules.specs.Calls.{drawCode}
 use Rattle.sequences.specs.Plan.{joined, run, firstOf}
-use Rattle.sequences.specs.Whole.{Fit, length-flat}
+use Rattle.sequences.specs.Whole.{Fit}
 
 -- ---- corners below the vertex count
 
@@ -71,14 +72,6 @@ run-within sc (x ∷ rs) (suc r) h =
 
 -- ---- face slices
 
-flat-faces : (n : ℕ) (tri : List ℕ) → length tri ≡ 3 * n → flat (facesOf tri) ≡ tri
-unfolding flat facesOf
-flat-faces n [] e = refl
-flat-faces n (a ∷ []) e = absurd (omega arith)
-flat-faces n (a ∷ b ∷ []) e = absurd (omega arith)
-flat-faces zero (a ∷ b ∷ c ∷ tri) e = absurd (omega arith)
-flat-faces (suc n) (a ∷ b ∷ c ∷ tri) e = ap (λ (l : List ℕ). a ∷ b ∷ c ∷ l) (flat-faces n tri (omega arith))
-
 -- whole threes come back
 pub threes-of : (tri : List ℕ) → groups 3 mostCount (length tri) ≡ true → flat (facesOf tri) ≡ tri
 threes-of tri e = flat-faces (length tri / 3) tri (sym (whole 3 mostCount (length tri) (grouped 3 mostCount (length tri) e)))
@@ -88,22 +81,7 @@ few-of tri e = omega (arith, grouped 3 mostCount (length tri) e .most, length-fl
 
 -- face i of a slice is face i of the list
 pub face-flat : (d : Face) (fs : List Face) (i : ℕ) → i < length fs → faceAt (flat fs) i ≡ getD fs i d
-unfolding faceAt flat
-face-flat d [] i h = absurd (not-suc-le-zero h)
-face-flat d (f ∷ fs) zero h = refl
-face-flat d (f ∷ fs) (suc i) h = shifted ∙ face-flat d fs i (le-of-suc-le-suc h)
-  where
-    three : 3 * suc i ≡ suc (suc (suc (3 * i)))
-    three = omega arith
-
-    one : 3 * suc i + 1 ≡ suc (suc (suc (3 * i + 1)))
-    one = omega arith
-
-    two : 3 * suc i + 2 ≡ suc (suc (suc (3 * i + 2)))
-    two = omega arith
-
-    shifted : faceAt (flat (f ∷ fs)) (suc i) ≡ faceAt (flat fs) i
-    shifted = rw (one, two, three)
+face-flat d fs i h = sym (face-get (flat fs) i d (omega (arith, length-flat fs))) ∙ ap (λ (l : List Face). getD l i d) (faces-flat fs)
 
 -- ---- an accepted mesh
 

@@ -1,4 +1,5 @@
--- A list with faces taken out that hold no pixel: its drawing is the full one's, renumbered, and no pass can tell them apart.
+-- A list with faces taken out: a pixel whose face is kept shows it still. Where those taken out hold no pixel, the drawing is the full one's, renumbered, and no pass
+-- can tell them apart.
 use Prim.Native.Nat.{ℕ, _/_, _<_, _≤_}
 use mathlib.Core.Path.{_≡_, refl, ap, sym, _∙_}
 use mathlib.Core.Logic.{_⊎_, inl, inr}
@@ -19,11 +20,12 @@ use Rattle.offers.specs.Laws.Thinning.{renumber-empty, renumber-face, kept-apar
 use Rattle.cells.specs.Cell.{Hit, hit, Cell, noHit, numbered}
 use Rattle.cells.specs.Laws.Numbers.{numbered-number, withNumber, numbered-renamed}
 use Rattle.meshes.specs.Mesh.{Face, face, faceAt, flat}
+use Rattle.meshes.specs.Laws.{length-flat}
 use Rattle.meshes.specs.View.{entryAt}
 use Rattle.views.specs.Alike.{Alike}
 use Rattle.views.specs.Renaming.{Renames, renamed-alike}
 use Rattle.rules.specs.Offers.{Scene, brings, brought, offers, Holds}
-use Rattle.sequences.specs.Whole.{pixelCount, fresh, length-flat, groups-flat}
+use Rattle.sequences.specs.Whole.{pixelCount, fresh, groups-flat}
 use Rattle.sequences.specs.Mesh.{kept-below, face-flat}
 use Rattle.sequences.specs.Redrawn.{holds-face, drawnMap, entry-holds, renumbered, redrawn}
 

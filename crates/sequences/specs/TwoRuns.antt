@@ -15,30 +15,17 @@ use Rattle.cells.specs.Steps.{Spans}
 use Rattle.cells.specs.Laws.Cells.{same-buffers}
 use Rattle.layers.specs.Calls.{clearing, joining}
 use Rattle.meshes.specs.Mesh.{Face, facesOf, flat}
+use Rattle.meshes.specs.Laws.{length-flat, flat-take, flat-drop}
 use Rattle.rules.specs.Offers.{Scene}
 use Rattle.rules.specs.Calls.{drawCode, facingOf, draws}
 use Rattle.sequences.specs.Calls.{Store, after, afterAll}
 use Rattle.sequences.specs.Plan as plan
 use Rattle.sequences.specs.Plan.{joined, nothing, runs, changedAt, over, clears, joins, clearOf, drawOf, joinOf, Accepted}
-use Rattle.sequences.specs.Whole.{pixelCount, cleared, length-flat}
+use Rattle.sequences.specs.Whole.{pixelCount, cleared}
 use Rattle.sequences.specs.Mesh.{answered, threes-of}
 use Rattle.sequences.specs.Case.{Case, full, final, pictures}
 
 -- ---- lists
-
-flat-take : (c : ℕ) (fs : List Face) → take (3 * c) (flat fs) ≡ flat (take c fs)
-unfolding flat
-flat-take zero fs = refl
-flat-take (suc c) [] = let three : 3 * suc c ≡ suc (suc (suc (3 * c))) = omega arith in rw three
-flat-take (suc c) (f ∷ fs) =
-    let three : 3 * suc c ≡ suc (suc (suc (3 * c))) = omega arith in
-    rw three (ap (λ (l : List ℕ). f .v0 ∷ f .v1 ∷ f .v2 ∷ l) (flat-take c fs))
-
-flat-drop : (c : ℕ) (fs : List Face) → drop (3 * c) (flat fs) ≡ flat (drop c fs)
-unfolding flat
-flat-drop zero fs = refl
-flat-drop (suc c) [] = let three : 3 * suc c ≡ suc (suc (suc (3 * c))) = omega arith in rw three
-flat-drop (suc c) (f ∷ fs) = let three : 3 * suc c ≡ suc (suc (suc (3 * c))) = omega arith in rw three (flat-drop c fs)
 
 taken : (c : ℕ) (fs : List Face) → c ≤ length fs → length (take c fs) ≡ c
 taken zero fs h = refl

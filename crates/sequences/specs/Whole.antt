@@ -18,6 +18,7 @@ use Rattle.layers.specs.Calls.{exactLayer, clearCode, clearing, joinCode, joini
 use Rattle.cells.specs.Laws.Cells.{same-buffers}
 use Rattle.cells.specs.Laws.Pixels.{pixelwise-same, at-pixelwise, spans-pixelwise}
 use Rattle.meshes.specs.Mesh.{Face, facesOf, flat}
+use Rattle.meshes.specs.Laws.{length-flat, faces-flat}
 use Rattle.rules.specs.declared.Facing.{Facing}
 use Rattle.rules.specs.Offers.{Scene, scene, brings, brought}
 use Rattle.rules.specs.Draw.{painted, drawn}
@@ -68,17 +69,7 @@ module _ (s : Store) (c : Call) (i : ℕ) (e : written c ≡ whole i) where
   unfolding after
   other-layers j h = rw (e, ne-eqb i j h)
 
--- ---- face slices
-
-pub length-flat : (fs : List Face) → length (flat fs) ≡ 3 * length fs
-unfolding flat
-length-flat [] = refl
-length-flat (f ∷ fs) = let e = length-flat fs in omega arith
-
-pub faces-flat : (fs : List Face) → facesOf (flat fs) ≡ fs
-unfolding flat facesOf
-faces-flat [] = refl
-faces-flat (f ∷ fs) = ap (λ (l : List Face). f ∷ l) (faces-flat fs)
+-- ---- runs
 
 joined-append : {A : Type 0} (xs ys : List (List A)) → joined (xs ++ ys) ≡ joined xs ++ joined ys
 unfolding joined
@@ -96,6 +87,13 @@ cleared n = pixelwise n (λ p. cell.clear)
 -- the drawing of a list of faces, the first of them numbered k, into a cleared layer
 unfoldable pub fresh : Scene → List Face → ℕ → Layer
 fresh sc fs k = drawn sc fs k (cleared (pixelCount sc))
+
+pub cleared-spans : (n : ℕ) {l : Layer} → l ≡ cleared n → Spans l n
+cleared-spans n e = rw e (spans-pixelwise n (λ p. cell.clear))
+
+pub drawn-fresh : (sc : Scene) (fs : List Face) (k : ℕ) {mid new : Layer} → mid ≡ cleared (pixelCount sc) → new ≡ drawn sc fs k mid → new ≡ fresh sc fs k
+unfolding fresh
+drawn-fresh sc fs k e f = f ∙ ap (drawn sc fs k) e
 
 module _ (sc : Scene) where
   -- pixel by pixel
@@ -213,9 +211,6 @@ module _ (sc : Scene) (rs : List (List Face)) where
     clear-layer : (s : Store) (i : ℕ) → Spans (layerOf s i) (pixelCount sc) → layerOf (after s (clearOf sc rs i)) i ≡ cleared (pixelCount sc)
     clear-layer s i h = this-layer s (clearOf sc rs i) i refl ∙ clear-left (layerOf s i) h
 
-    blank-spans : (l : Layer) → l ≡ cleared (pixelCount sc) → Spans l (pixelCount sc)
-    blank-spans l e = rw e (spans-pixelwise (pixelCount sc) (λ p. cell.clear))
-
     runs-spans : (l : Layer) (from m : ℕ) → Has (runs from m) l → Spans l (pixelCount sc)
     unfolding Has
     runs-spans l from m e = rw e (fresh-spans sc (span from m) (firstOf sc rs from))
@@ -225,7 +220,7 @@ module _ (sc : Scene) (rs : List (List Face)) where
         → draws l (flat (run sc rs r)) (sc .vertices) (sc .width) (sc .height) (sc .matrix) (firstOf sc rs r) facing .left ≡ fresh sc (span r 1) (firstOf sc rs r)
     unfolding draws fresh
     drawn-left l facing r f h e =
-        accepted-left _ _ _ (draw-code fit l r h (blank-spans l e))
+        accepted-left _ _ _ (draw-code fit l r h (cleared-spans (pixelCount sc) e))
         ∙ ap (λ (n : Facing). drawn (scene (sc .matrix) (sc .vertices) (sc .width) (sc .height) n) (facesOf (flat (run sc rs r))) (firstOf sc rs r) l) f
         ∙ ap₂ (λ (fs : List Face) (l : Layer). drawn sc fs (firstOf sc rs r) l) (faces-flat (run sc rs r) ∙ sym (span-one r h)) e
 
@@ -252,7 +247,7 @@ module _ (sc : Scene) (rs : List (List Face)) where
     kept-through (plan.draws {g = g} {s = s} facing i r f h e k) inv =
         let has : layerOf s i ≡ cleared (pixelCount sc) = subst (λ (x : Stands). Has x (layerOf s i)) e (inv i) in
         let rest = kept-through k (put g s (after s (drawOf sc rs facing r i)) i (runs r 1) inv (other-layers s (drawOf sc rs facing r i) i refl) (drawn-layer s facing i r f h has)) in
-        ((draw-code fit (layerOf s i) r h (blank-spans (layerOf s i) has), rest .0), rest .1)
+        ((draw-code fit (layerOf s i) r h (cleared-spans (pixelCount sc) has), rest .0), rest .1)
     kept-through (joins {g = g} {s = s} i j from m n d ei ej k) inv =
         let hi = subst (λ (x : Stands). Has x (layerOf s i)) ei (inv i) in
         let hj = subst (λ (x : Stands). Has x (layerOf s j)) ej (inv j) in

@@ -78,8 +78,9 @@ loop-again c =
     let drawn = c .before .before .before .before .before .before in
     let found = drawn .before .before .before .before .before in
     let m = found .before .before in
-    let a = m .before .before .before .before .before .before .before .args in
-    left-less (scene (a .m .now) (a .vtx2xyz .now) (a .w) (a .h) (a .facing)) (keptBy (a .removed .now)) (a .tri2vtx .now) (layer (a .pix2tri .now) (a .pix2depth .now) (a .pix2weights .now)) (layer (m .loop .pix2tri) (m .loop .pix2depth) (m .loop .pix2weights)) _ (m .loop .i) (found .run-end .result) (m .loop .number) (run found) (m .loop .inv) (drawn .draw-faces .ensures)
+    let f = m .before .before .before .before .before .before .before in
+    let a = f .args in
+    left-less (scene (a .m .now) (a .vtx2xyz .now) (a .w) (a .h) (a .facing)) (keptBy (a .removed .now)) (a .tri2vtx .now) (layer (a .pix2tri .now) (a .pix2depth .now) (a .pix2weights .now)) (layer (m .loop .pix2tri) (m .loop .pix2depth) (m .loop .pix2weights)) _ (m .loop .i) (found .run-end .result) (m .loop .number) (f .pre .1 .1 .0 .faces) (run found) (m .loop .inv) (drawn .draw-faces .ensures)
 
 same-length : tie.Need-same-length Inv-loop μ-loop
 same-length c = c .before .loop .inv .spans .numbers ∙ sym (c .before .before .before .before .before .before .before .before .pre .1 .0 .numbers)

@@ -48,6 +48,16 @@ module _ (keep : ℕ → Bool) where
       go (inl h) = omega (arith, before-suc k h)
       go (inr h) = omega (arith, before-same k h)
 
+  -- there are no more of them than faces
+  pub before-most : (k : ℕ) → keptBefore keep k ≤ k
+  unfolding keptBefore
+  before-most zero = omega arith
+  before-most (suc k) = go (test (keep k)) (before-most k)
+    where
+      go : T (keep k) ⊎ T (not (keep k)) → keptBefore keep k ≤ k → keptBefore keep (suc k) ≤ suc k
+      go (inl h) l = omega (arith, before-suc k h)
+      go (inr h) l = omega (arith, before-same k h)
+
   before-mono : (k i : ℕ) → keptBefore keep k ≤ keptBefore keep (k + i)
   before-mono k zero = rw add-zero (omega arith)
   before-mono k (suc i) = rw add-suc (omega (arith, before-mono k i, before-step (k + i)))

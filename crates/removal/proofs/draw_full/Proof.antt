@@ -2,7 +2,7 @@
 use native.Mathlib.Omega.{arith}
 use borrow.Author.Needs.{needs}
 use Rattle.questions.specs.Laws.{area}
-use Rattle.removal.proofs.Cleared.{cleared-spans, drawn-fresh}
+use Rattle.sequences.specs.Whole.{cleared-spans, drawn-fresh}
 use Rattle.removal.proofs.draw_full.Statement.{statement}
 use Rattle.removal.proofs.draw_full.Tie as tie
 
@@ -22,7 +22,7 @@ returns : tie.Need-returns
 returns c =
     let draws = c .before .before .before .before .before .before in
     let clears = draws .before .before .before .before .before .before .before .before .before .before in
-    drawn-fresh _ _ (clears .clear-pixels .ensures) (draws .draw-faces .ensures)
+    drawn-fresh _ _ 0 (clears .clear-pixels .ensures) (draws .draw-faces .ensures)
 
 pub draw-full-spec : {M : Type 1} → statement M
 draw-full-spec =

@@ -1,8 +1,8 @@
 -- What becomes of a pixel follows from its old entry: it keeps its face exactly where that is not removed.
-use Prim.Native.Nat.{ℕ, zero, suc, _<_, _≤_}
+use Prim.Native.Nat.{ℕ, _<_, _≤_}
 use mathlib.Core.Path.{_≡_, refl, ap, sym, _∙_}
 use mathlib.Core.Logic.{_⊎_, inl, inr}
-use mathlib.Core.Bool.{Bool, true, false, not, _&&_, _||_, cond, and-comm, and-true, or-true, true≢false}
+use mathlib.Core.Bool.{Bool, true, false, not, _&&_, _||_, and-comm, and-true, or-true, true≢false}
 use mathlib.Core.List.{List}
 use native.Mathlib.Omega.{arith}
 use borrow.Author.Tests.{eq-eqb, ne-eqb, eqb-true}
@@ -14,7 +14,7 @@ use Rattle.offers.specs.Offers.{Greatest}
 use Rattle.offers.specs.Thinning.{keptFrom, keptBefore, renumber}
 use Rattle.offers.specs.Laws.Greatest.{first-of-greatest}
 use Rattle.offers.specs.Laws.Removal.{with-greatest}
-use Rattle.offers.specs.Laws.Thinning.{renumber-empty, renumber-face}
+use Rattle.offers.specs.Laws.Thinning.{renumber-empty, renumber-face, before-most}
 use Rattle.cells.specs.Cell.{Cell, noHit}
 use Rattle.cells.specs.Laws.Numbers.{withNumber}
 use Rattle.meshes.specs.Mesh.{Face}
@@ -46,15 +46,6 @@ by-number keep old = go (eqb old empty) refl
 
 pub stays-kept : (keep : ℕ → Bool) (old new : ℕ) → keep old ≡ true → new ≡ renumber empty keep old → keepsFace keep old new ≡ true
 stays-kept keep old new k e = ap (keepsFace keep old) e ∙ by-number keep old ∙ rw k (or-true (eqb old empty))
-
-before-most : (keep : ℕ → Bool) (k : ℕ) → keptBefore keep k ≤ k
-unfolding keptBefore
-before-most keep zero = omega arith
-before-most keep (suc k) = go (keep k) (before-most keep k)
-  where
-    go : (b : Bool) → keptBefore keep k ≤ k → cond b (suc (keptBefore keep k)) (keptBefore keep k) ≤ suc k
-    go true h = omega arith
-    go false h = omega arith
 
 module _ {keep : ℕ → Bool} {full short : List ℕ} {n : ℕ} (t : Matched keep full short n) (p : ℕ) (h : p < n) where
   abbrev old : ℕ
