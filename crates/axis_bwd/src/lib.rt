@@ -1,4 +1,5 @@
 // What an axis's pairs of pixels add, one after the other. No function here is a public call.
+#![tactic(auto)]
 
 ghost use Rattle.std.specs.Prelude.{◌≡◌, true, ◌*◌, ◌≤◌, length};
 ghost use Rattle.meshes.specs.View.{view_of};

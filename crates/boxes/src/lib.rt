@@ -1,5 +1,6 @@
 // The box of a piece: its corners on the screen, and the columns and rows of the image that its scan visits, or how many. Values in, values out: no layer
 // is known here.
+#![tactic(auto)]
 
 pub mod axis;
 mod reach;
@@ -12,7 +13,7 @@ ghost use Rattle.boxes.specs.Answer.{screen_of};
 ghost use Rattle.boxes.specs.Box.{Meets, Scanned};
 
 // A piece on the screen: pixel coordinates and depths of its corners.
-#[derive(Drop)]
+#[derive(Clone, Copy)]
 pub struct Screen {
     pub x0: f32,
     pub y0: f32,
@@ -26,7 +27,7 @@ pub struct Screen {
 }
 
 // Columns x0 to x1 and rows y0 to y1, without x1 and y1.
-#[derive(Drop)]
+#[derive(Clone, Copy)]
 pub struct Box {
     pub x0: usize,
     pub x1: usize,

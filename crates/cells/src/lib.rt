@@ -1,4 +1,6 @@
 // The pixels of a layer: one to which a candidate is brought, two that are joined, and the loops over all. No function here is a public call.
+#![tactic(auto)]
+
 ghost use Rattle.std.specs.Prelude.{◌≡◌, cond, ◌+◌, ◌*◌, ◌<◌, length};
 ghost use Rattle.std.specs.Float.Ieee.{lt};
 ghost use Rattle.geometry.specs.Vector.{weights};

@@ -1,5 +1,6 @@
 // A projected corner with its near-clip score, its tests, and where an edge meets the near plane. Every function is total: values in, value out.
 // No function here is a public call.
+#![tactic(auto)]
 
 ghost use Rattle.std.specs.Prelude.{◌≡◌, ◌&&◌};
 ghost use Rattle.geometry.specs.Arith.{floats};
@@ -10,7 +11,7 @@ ghost use Rattle.corners.specs.Answer.{corner_of};
 use geometry::{Projected, Vec3};
 
 // A projected corner, its divisor hw and its near-clip score c.
-#[derive(Drop)]
+#[derive(Clone, Copy)]
 pub struct Corner {
     pub x: f32,
     pub y: f32,

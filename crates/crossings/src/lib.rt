@@ -1,5 +1,6 @@
 // Two faces that cross between two pixels, of their unit normals in the image. `axis` is 0 for pairs side by side, 1 for pairs one above the other.
 // No function here is a public call.
+#![tactic(auto)]
 
 ghost use Rattle.std.specs.Prelude.{◌≡◌};
 ghost use Rattle.geometry.specs.Answer.{point3};

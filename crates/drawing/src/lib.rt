@@ -1,4 +1,5 @@
 // Drawing: the public call `pix2tri_by_rasterization`.
+#![tactic(auto)]
 
 ghost use Rattle.std.specs.Prelude.{◌≡◌};
 ghost use Rattle.questions.specs.Questions.{outcome};

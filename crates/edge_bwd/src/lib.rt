@@ -1,4 +1,5 @@
 // Edges: the public call `bwd`.
+#![tactic(auto)]
 
 ghost use Rattle.std.specs.Prelude.{◌≡◌, ◌++◌, ◌*◌, ◌/◌, length};
 ghost use Rattle.questions.specs.Questions.{first_no, outcome, most_count, naming};

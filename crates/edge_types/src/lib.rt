@@ -1,5 +1,6 @@
 // The type of a pair of neighbouring pixels, and the loop over an axis's pairs, row by row. `right` and `down` lead from a pair's first pixel
 // to its second. No function here is a public call.
+#![tactic(auto)]
 
 ghost use Rattle.std.specs.Prelude.{◌≡◌, true, ◌||◌, ◌*◌, ◌/◌, ◌≤◌, length};
 ghost use Rattle.questions.specs.Questions.{names_face};

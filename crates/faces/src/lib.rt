@@ -1,4 +1,5 @@
 // Drawing a face on a layer, and all faces, one after the other. `draw_faces` is lent to the crate that asks the questions first. No function here is a public call.
+#![tactic(auto)]
 
 ghost use Rattle.std.specs.Prelude.{◌≡◌, ◌+◌, ◌*◌, ◌/◌, ◌≤◌, ◌<◌, length};
 ghost use Rattle.questions.specs.Questions.{most_count};

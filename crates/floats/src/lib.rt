@@ -1,6 +1,7 @@
 // Float tools: narrowing f64 to f32, and the length of a pair. Each answers every bit pattern. A
 // positive value is kept as q * 2^k times the smallest value of its format, so that k is the
 // exponent's field less one, and 0 for a subnormal.
+#![tactic(auto)]
 
 ghost use Rattle.std.specs.Prelude.{◌≡◌, ◌*◌, ◌^◌, ◌<◌};
 ghost use Rattle.std.specs.Float.{binary32, binary64};

@@ -1,4 +1,5 @@
 // 01, "Leaves": the formulas that drawing, values and edges share. Every function is total: values in, value out.
+#![tactic(auto)]
 
 ghost use Rattle.std.specs.Prelude.{◌≡◌, ◌<◌};
 ghost use Rattle.geometry.specs.Arith.{floats};
@@ -8,13 +9,13 @@ ghost use Rattle.std.specs.Float.Ieee.Scale as scale;
 ghost use Rattle.geometry.specs.Leaf as leaf;
 ghost use Rattle.geometry.specs.Answer.{point2, point3, weights_of, corner_weights_of, projection_of};
 
-#[derive(Drop)]
+#[derive(Clone, Copy)]
 pub struct Vec2 {
     pub x: f32,
     pub y: f32,
 }
 
-#[derive(Drop)]
+#[derive(Clone, Copy)]
 pub struct Vec3 {
     pub x: f32,
     pub y: f32,
@@ -22,7 +23,7 @@ pub struct Vec3 {
 }
 
 // A projected point and the divisor w that it came from.
-#[derive(Drop)]
+#[derive(Clone, Copy)]
 pub struct Projected {
     pub x: f32,
     pub y: f32,
@@ -30,20 +31,20 @@ pub struct Projected {
     pub w: f32,
 }
 
-#[derive(Drop)]
+#[derive(Clone, Copy)]
 pub enum Projection {
     At(Projected),
     Nowhere,
 }
 
-#[derive(Drop)]
+#[derive(Clone, Copy)]
 pub enum Weights {
     Three(f32, f32, f32),
     Nothing,
 }
 
 // Three weights, and the sum of the areas that they are over: the doubled signed area of the triangle.
-#[derive(Drop)]
+#[derive(Clone, Copy)]
 pub enum CornerWeights {
     Three(f32, f32, f32, f32),
     Nothing,

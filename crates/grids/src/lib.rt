@@ -1,4 +1,5 @@
 // The values on the edges of an axis as a grid, and the value between four of its places. No function here is a public call.
+#![tactic(auto)]
 
 ghost use Rattle.std.specs.Prelude.{◌≡◌, ◌+◌, ◌*◌, ◌≤◌, length};
 ghost use Rattle.geometry.specs.Arith.{floats};
@@ -10,7 +11,7 @@ ghost use Rattle.grids.specs.Grid as grid;
 ghost use Rattle.grids.specs.Steps.{stand_of, Below};
 
 // Two neighbouring grid places and the fraction of the way between them.
-#[derive(Drop)]
+#[derive(Clone, Copy)]
 pub struct Stand {
     pub low: usize,
     pub high: usize,

@@ -1,4 +1,5 @@
 // What the pixels of an image add to both accumulators, in rising number. No function here is a public call.
+#![tactic(auto)]
 
 ghost use Rattle.std.specs.Prelude.{◌≡◌, ◌*◌, ◌/◌, ◌<◌, length};
 ghost use Rattle.meshes.specs.Sound.{SoundMap};

@@ -1,4 +1,5 @@
 // A face as the matrix projects it, and the one test of both edge passes whether it contains a point. No function here is a public call.
+#![tactic(auto)]
 
 ghost use Rattle.std.specs.Prelude.{◌≡◌, true, ◌+◌, ◌*◌, ◌/◌, ◌<◌, length, get_or};
 ghost use Rattle.std.proofs.Math.Option.{some};

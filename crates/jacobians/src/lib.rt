@@ -1,5 +1,6 @@
 // 01, "Projection": `jacobian_transform` and `mult_mat3_col_major`. Every function is total: values in, value out.
 // No function here is a public call.
+#![tactic(auto)]
 
 ghost use Rattle.std.specs.Prelude.{◌≡◌, ◌<◌};
 ghost use Rattle.geometry.specs.Arith.{floats};
@@ -11,7 +12,7 @@ ghost use Rattle.jacobians.specs.Answer.{matrix_of};
 use geometry::{Projected, Vec3};
 
 // Nine numbers, column-major.
-#[derive(Drop)]
+#[derive(Clone, Copy)]
 pub struct Mat3 {
     pub c0: Vec3,
     pub c1: Vec3,

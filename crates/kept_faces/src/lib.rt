@@ -1,4 +1,5 @@
 // The faces of a mesh that are not marked as removed, drawn on a layer. The shortened list is nowhere in memory. No function here is a public call.
+#![tactic(auto)]
 
 ghost use Rattle.std.specs.Prelude.{◌≡◌, ◌+◌, ◌*◌, ◌/◌, ◌≤◌, length, drop};
 ghost use Rattle.questions.specs.Questions.{most_count};

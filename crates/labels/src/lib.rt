@@ -1,4 +1,5 @@
 // The picture of body numbers (02, Point 10): the public call `label_picture`. It is lent the map and a table, and neither depths nor weights.
+#![tactic(auto)]
 
 ghost use Rattle.std.specs.Prelude.{◌≡◌, ◌≤◌, length};
 ghost use Rattle.questions.specs.Questions.{outcome, most_count};

@@ -1,5 +1,6 @@
 // The depth that a piece on the screen has at a pixel, or −infinity, worked out straight on, with no early end, so that the compiler works out several pixels
 // side by side. It tells which pixels can be greater than what is stored; a visit of those works their depth out anew, and leaves off where there is none.
+#![tactic(auto)]
 
 ghost use Rattle.std.specs.Prelude.{◌≡◌, cond, Float};
 ghost use Rattle.std.specs.Float.Ieee.{lt, le};
@@ -15,7 +16,7 @@ use geometry::Vec2;
 use rules::Facing;
 
 // The sums that a drawing counts, an open interval: whatever its ends, what lies between is finite.
-#[derive(Drop)]
+#[derive(Clone, Copy)]
 pub struct Side {
     pub above: f32,
     pub below: f32,

@@ -1,4 +1,6 @@
 // Layers: the public calls `clear` and `join`.
+#![tactic(auto)]
+
 ghost use Rattle.std.specs.Prelude.{◌≡◌};
 ghost use Rattle.questions.specs.Laws.{Sized};
 ghost use Rattle.questions.specs.Questions.{outcome};

@@ -1,1 +1,2 @@
 // Lists by number, and tests of them: definitions and laws, in specs/. There is no code here.
+#![tactic(auto)]

@@ -1,4 +1,5 @@
 // How much work a mesh is, without drawing it: the public call `drawing_load`.
+#![tactic(auto)]
 
 ghost use Rattle.std.specs.Prelude.{◌≡◌, Bool, ◌/◌, ◌≤◌, length};
 ghost use Rattle.lists.specs.Lists.{sum_of};
@@ -16,7 +17,7 @@ use pieces::Pieces;
 
 // The code; the pieces after clipping, and the pixels that the scan will offer them, both 0 where the call refuses.
 #[repr(C)]
-#[derive(Drop)]
+#[derive(Clone, Copy)]
 pub struct DrawingLoad {
     pub code: u32,
     pub pieces: u64,

@@ -1,4 +1,5 @@
 // Meshes in flat slices, their corners projected, and sums into an accumulator. No function here is a public call.
+#![tactic(auto)]
 
 ghost use Rattle.std.specs.Prelude.{◌≡◌, ◌+◌, ◌*◌, ◌<◌, length, get_or};
 ghost use Rattle.geometry.specs.Answer.{point3, projection_of};

@@ -1,4 +1,5 @@
 // 01, "Unit normal". Values in, value out. No function here is a public call.
+#![tactic(auto)]
 
 ghost use Rattle.std.specs.Prelude.{◌≡◌};
 ghost use Rattle.geometry.specs.Vector.{triangle};

@@ -1,5 +1,6 @@
 // Pairs of neighbouring pixels, as both edge passes ask of them. `right` and `down` lead from a pair's first pixel to its second.
 // No function here is a public call.
+#![tactic(auto)]
 
 ghost use Rattle.std.specs.Prelude.{◌≡◌, ◌+◌, ◌*◌, ◌≤◌, ◌<◌, length};
 ghost use Rattle.questions.specs.Laws.{Sized, Channels};
@@ -12,7 +13,7 @@ ghost use Rattle.pairs.specs.Gradient.{pixel_values, exact_pixels, channel_term}
 ghost use Rattle.pairs.specs.Steps.{SoundValues, Within, PairAt};
 
 // The numbers of a pair's pixels, and their entries in the map.
-#[derive(Drop)]
+#[derive(Clone, Copy)]
 pub struct Pair {
     pub p: usize,
     pub q: usize,

@@ -1,5 +1,6 @@
 // The public calls as C sees them: every function here, and nothing else, is exported. Each passes
 // its arguments on, and promises what the callee's definition says.
+#![tactic(auto)]
 
 ghost use Rattle.std.specs.Prelude.{◌≡◌};
 ghost use Rattle.std.specs.Float.{binary32, binary64};

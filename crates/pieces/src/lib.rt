@@ -1,5 +1,6 @@
 // The pieces of a face: clipping against the near plane, as the Rust's branches choose, and what they are charged. All but `face_pieces` are total: values in, value out.
 // No function here is a public call.
+#![tactic(auto)]
 
 ghost use Rattle.std.specs.Prelude.{◌≡◌, Bool, true, false, ℕ, ◌/◌, ◌<◌, length, List, ◌∷◌, [], Float};
 ghost use Rattle.meshes.specs.Mesh.{face_at};
@@ -14,7 +15,7 @@ use corners::Corner;
 use geometry::Projection;
 
 // The corners of a face that is cut, the one alone on its side of the near plane first, and whether they are so listed turned round.
-#[derive(Drop)]
+#[derive(Clone, Copy)]
 pub struct Lone {
     pub lone: Corner,
     pub a: Corner,
@@ -23,7 +24,7 @@ pub struct Lone {
 }
 
 // The first corner of One is alone beyond the near plane, that of Two alone before it.
-#[derive(Drop)]
+#[derive(Clone, Copy)]
 pub enum Pieces {
     Nothing,
     Whole(Corner, Corner, Corner),

@@ -1,4 +1,6 @@
 // The backward pass of values at one pixel: what it adds. No function here is a public call.
+#![tactic(auto)]
+
 ghost use Rattle.std.specs.Prelude.{◌≡◌, true, [], ◌∷◌, ◌+◌, ◌*◌, ◌/◌, ◌≤◌, ◌<◌, length};
 ghost use Rattle.questions.specs.Questions.{names_face};
 ghost use Rattle.rays.specs.Answer as ofRays;

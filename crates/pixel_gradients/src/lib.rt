@@ -1,4 +1,6 @@
 // The backward pass of values at one pixel: its gradients, with nothing written. No function here is a public call.
+#![tactic(auto)]
+
 ghost use Rattle.std.specs.Prelude.{◌≡◌, ◌+◌, ◌*◌, ◌/◌, ◌≤◌, length, get_or};
 ghost use Rattle.std.specs.Float.{nan};
 ghost use Rattle.geometry.specs.Arith.{floats};

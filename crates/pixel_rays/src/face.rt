@@ -7,7 +7,7 @@ ghost use Rattle.pixel_rays.specs.Answer.{face_of};
 use rays::Corners;
 
 // Three vertex numbers.
-#[derive(Drop)]
+#[derive(Clone, Copy)]
 pub struct Face {
     pub v0: usize,
     pub v1: usize,

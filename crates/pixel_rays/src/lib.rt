@@ -1,5 +1,7 @@
 // The rays of an image's pixels, with question 8 of the passes that follow them, and the face that a pixel shows.
 // Nothing here writes, and no function here is a public call.
+#![tactic(auto)]
+
 ghost use Rattle.std.specs.Prelude.{◌≡◌, List, ℕ, ◌*◌, ◌<◌, length};
 ghost use Rattle.lists.specs.Lists.{every, span};
 ghost use Rattle.questions.specs.Laws.{Sized};

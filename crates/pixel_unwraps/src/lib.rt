@@ -1,6 +1,7 @@
 // Question 9 asked of pixels and not of pairs. A share lies at its own pixel's centre: where every pixel that has an unequal neighbour has
 // its weights there, both axes are answered yes, in one pass by rows. Where one has none, the pairs are asked one by one.
 // No function here is a public call.
+#![tactic(auto)]
 
 ghost use Rattle.std.specs.Prelude.{◌≡◌, true, ℕ, ◌*◌, ◌≤◌, ◌<◌, length};
 ghost use Rattle.questions.specs.Laws.{Sized};

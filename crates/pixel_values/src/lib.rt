@@ -1,4 +1,5 @@
 // The values of one pixel, into the run of channels that is lent. No function here is a public call.
+#![tactic(auto)]
 
 ghost use Rattle.std.specs.Prelude.{◌≡◌, true, ◌+◌, ◌*◌, ◌/◌, ◌≤◌, length, get_or};
 ghost use Rattle.std.specs.Float.{nan};

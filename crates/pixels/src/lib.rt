@@ -1,4 +1,5 @@
 // Pixels: whole numbers as floats, centres, and the next place of a walk row by row. No function here is a public call.
+#![tactic(auto)]
 
 ghost use Rattle.std.specs.Prelude.{◌≡◌, ◌+◌, ◌*◌, ◌<◌, ◌≤◌};
 ghost use Rattle.geometry.specs.Answer.{point2};
@@ -54,7 +55,7 @@ pub fn edge_count(img_w: usize, img_h: usize, right: usize, down: usize) -> usiz
 }
 
 // A column and a row.
-#[derive(Drop)]
+#[derive(Clone, Copy)]
 pub struct Place {
     pub x: usize,
     pub y: usize,

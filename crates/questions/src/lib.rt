@@ -1,4 +1,6 @@
 // 01, "The questions, in order": the answers that several calls share. Nothing here writes, and no function here is a public call.
+#![tactic(auto)]
+
 ghost use Rattle.std.specs.Prelude.{◌≡◌, ◌<◌};
 ghost use Rattle.questions.specs.Questions.{first_no, sizes, channels, groups, slices, bounded, numbers, all_below, names_face, names_faces, opening, naming};
 

@@ -1,4 +1,5 @@
 // Drawing three projected corners on a layer: their pieces, each off the image or by the scan of its box. No function here is a public call.
+#![tactic(auto)]
 
 ghost use Rattle.std.specs.Prelude.{◌≡◌, ◌*◌};
 ghost use Rattle.questions.specs.Laws.{Sized};

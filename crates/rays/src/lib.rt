@@ -1,5 +1,6 @@
 // 01, "Ray and plane": the ray of a pixel, and where it meets a face's plane. Every function is total: values in, value out.
 // No function here is a public call.
+#![tactic(auto)]
 
 ghost use Rattle.std.specs.Prelude.{◌≡◌, ◌≤◌};
 ghost use Rattle.geometry.specs.Arith.{floats};
@@ -11,27 +12,27 @@ ghost use Rattle.rays.specs.Answer.{ray_of, corners_of, weights_of, pixel_ray_of
 
 use geometry::{Projection, Vec3};
 
-#[derive(Drop)]
+#[derive(Clone, Copy)]
 pub struct Ray {
     pub org: Vec3,
     pub dir: Vec3,
 }
 
-#[derive(Drop)]
+#[derive(Clone, Copy)]
 pub enum PixelRay {
     Along(Ray),
     Nowhere,
 }
 
 // The three corners of a face.
-#[derive(Drop)]
+#[derive(Clone, Copy)]
 pub struct Corners {
     pub p0: Vec3,
     pub p1: Vec3,
     pub p2: Vec3,
 }
 
-#[derive(Drop)]
+#[derive(Clone, Copy)]
 pub struct Weights {
     pub b0: f32,
     pub b1: f32,

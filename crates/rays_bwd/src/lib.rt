@@ -1,5 +1,6 @@
 // 01, "Ray and plane", the way back: the corners' shares of the gradients of t, u and v. Every function is total: values in, value out.
 // No function here is a public call.
+#![tactic(auto)]
 
 ghost use Rattle.std.specs.Prelude.{◌≡◌};
 ghost use Rattle.geometry.specs.Arith.{floats};
@@ -13,7 +14,7 @@ use geometry::Vec3;
 use rays::{Corners, Ray, Weights};
 
 // e1×e2, e2×d, d×e1 and D of the backward formula.
-#[derive(Drop)]
+#[derive(Clone, Copy)]
 pub struct Frame {
     pub e1e2: Vec3,
     pub e2d: Vec3,
@@ -22,7 +23,7 @@ pub struct Frame {
 }
 
 // The weights 1−u−v, u, v, and each corner's share.
-#[derive(Drop)]
+#[derive(Clone, Copy)]
 pub struct Gradients {
     pub bc: Weights,
     pub to: Corners,

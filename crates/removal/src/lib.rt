@@ -1,4 +1,5 @@
 // A removal seen beforehand: the public call `preview_removal`.
+#![tactic(auto)]
 
 ghost use Rattle.std.specs.Prelude.{◌≡◌, ◌&&◌, ◌*◌, ◌/◌, ◌≤◌, length};
 ghost use Rattle.questions.specs.Questions.{exact, most_count};

@@ -1,4 +1,5 @@
 // The pixels of two drawings compared by the marks of the removed faces, for the crate that draws them. No function here is a public call.
+#![tactic(auto)]
 
 ghost use Rattle.std.specs.Prelude.{◌≡◌, not, length};
 ghost use Rattle.questions.specs.Questions.{outcome};
@@ -10,7 +11,7 @@ ghost use Rattle.removal_counts.specs.Steps.{one_if};
 
 // The code; how many pixels go empty, name another face and keep theirs, each 0 where the call refuses.
 #[repr(C)]
-#[derive(Drop)]
+#[derive(Clone, Copy)]
 pub struct RemovalPreview {
     pub code: u32,
     pub emptied: usize,

@@ -1,1 +1,2 @@
 // A removal seen beforehand, as definitions and laws, in specs/. There is no code here.
+#![tactic(auto)]

@@ -1,6 +1,7 @@
 // Square roots of f32 and f64. Each answers every bit pattern. A positive value is kept as q * 2^k
 // times the smallest value of its format, so that k is the exponent's field less one, and 0 for a
 // subnormal.
+#![tactic(auto)]
 
 ghost use Rattle.std.specs.Prelude.{◌≡◌, ◌*◌, ◌/◌, ◌^◌, ◌≤◌, ◌<◌};
 ghost use Rattle.std.specs.Float.{binary32, binary64};
@@ -75,7 +76,7 @@ fn nearest_root(q: u64, k: u64, p: u64, l: u64) -> u64
 }
 
 // What halving an exponent leaves over, 0 or 1, and the digits that the root's exponent drops.
-#[derive(Drop)]
+#[derive(Clone, Copy)]
 struct Half {
     odd: u64,
     dropped: u64,

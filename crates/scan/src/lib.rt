@@ -1,4 +1,5 @@
 // The scan of a box: column by column, leftmost first, each from the top; stopped after so many visits.
+#![tactic(auto)]
 
 ghost use Rattle.std.specs.Prelude.{◌≡◌, ℕ, ◌+◌, ◌*◌, ◌≤◌, ◌<◌, take};
 ghost use Rattle.questions.specs.Laws.{Sized};

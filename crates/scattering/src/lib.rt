@@ -1,4 +1,5 @@
 // What one face receives: a gradient in the image, taken back to the world and added to its corners. No function here is a public call.
+#![tactic(auto)]
 
 ghost use Rattle.std.specs.Prelude.{◌≡◌, ◌+◌, ◌*◌, ◌/◌, ◌<◌, length};
 ghost use Rattle.geometry.specs.Vector.{weights};

@@ -1,4 +1,5 @@
 // What one pair adds: the shares of two faces, or of one beside an empty pixel. No function here is a public call.
+#![tactic(auto)]
 
 ghost use Rattle.std.specs.Prelude.{◌≡◌, true, ◌*◌, ◌/◌, ◌<◌, length};
 ghost use Rattle.std.proofs.Math.Option.{some};

@@ -1,5 +1,6 @@
 // The show program: draws T(0.25) and T(0.5) with the identity matrix, 2 x 2, by the public calls, and prints for each
 // pixel its row and column, the number of the face it shows, and its depth's bits.
+#![tactic(auto)]
 
 const STDOUT: i32 = 1;
 

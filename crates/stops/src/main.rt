@@ -2,6 +2,7 @@
 // the piece's number, the depth that every pixel holds before, its three corners in normalised coordinates, and how many stops to run: after 0 visits, 1, ..
 // Each stop begins with the layer as it was before, its weights 0.5, and writes a line: the number of visits; then of each pixel whose cell is another now,
 // in rising order, the pixel, its map entry, its depth and its three weights. The package rust/comparison wrote stdin and stdout (examples/stops.rs, whose comment says of which pieces).
+#![tactic(auto)]
 
 use rules::Facing;
 
@@ -17,7 +18,7 @@ const EMPTY: u32 = 0xffff_ffff;
 
 const WEIGHT: f32 = 0.5;
 
-#[derive(Drop)]
+#[derive(Clone, Copy)]
 enum Corner {
     At(f32, f32, f32),
     End,

@@ -1,1 +1,2 @@
 // Nothing here runs: the theorems are in specs/.
+#![tactic(auto)]

@@ -1,4 +1,5 @@
 // A face as `bwd` sees it: its corners, and where the matrix takes them. No function here is a public call.
+#![tactic(auto)]
 
 ghost use Rattle.std.specs.Prelude.{◌≡◌, ◌+◌, ◌*◌, ◌/◌, ◌<◌, length};
 ghost use Rattle.std.proofs.Math.Option.{some};
@@ -15,7 +16,7 @@ ghost use Rattle.tris.specs.Answer.{corners_in, projected_in};
 use geometry::{CornerWeights, Projected, Vec2, Vec3, Weights};
 use rays::Corners;
 
-#[derive(Drop)]
+#[derive(Clone, Copy)]
 pub struct Tri {
     pub node2xyz: [f32; 9],
     pub node2pixxy: [f32; 6],

@@ -1,4 +1,5 @@
 // Demand 3 met by the calls themselves: a mesh cut in two runs, each cleared and drawn in a layer of its own, then joined. Not a public call.
+#![tactic(auto)]
 
 ghost use Rattle.std.specs.Prelude.{◌≡◌, ◌*◌, ◌/◌, ◌≤◌, length};
 ghost use Rattle.questions.specs.Questions.{outcome};

@@ -1,4 +1,5 @@
 // Question 9: has `barycentric_world` an answer for each share of a pair, of an axis, of both? No function here is a public call.
+#![tactic(auto)]
 
 ghost use Rattle.std.specs.Prelude.{◌≡◌, true, ◌&&◌, ◌||◌, ◌≤◌};
 ghost use Rattle.std.proofs.Math.Option.{some};

@@ -1,4 +1,6 @@
 // Values: the public call `interpolate`.
+#![tactic(auto)]
+
 ghost use Rattle.std.specs.Prelude.{◌≡◌};
 ghost use Rattle.questions.specs.Questions.{outcome};
 ghost use Rattle.pixel_rays.specs.Rays.{image};

@@ -1,4 +1,6 @@
 // The backward pass of values: the public call `interpolate_bwd`.
+#![tactic(auto)]
+
 ghost use Rattle.std.specs.Prelude.{◌≡◌, ◌&&◌};
 ghost use Rattle.questions.specs.Questions.{exact, outcome};
 ghost use Rattle.pixel_rays.specs.Rays.{image};

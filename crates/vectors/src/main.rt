@@ -4,6 +4,7 @@
 //   3  an f64 narrowed                          4  the hypot of the f32s of both words
 // The answer follows in two words. The file stdout has the processor's own answers: the package rust/
 // wrote it and stdin (examples/vectors.rs, whose comment says of which values).
+#![tactic(auto)]
 
 const SPACE: u8 = 32;
 

@@ -1,4 +1,5 @@
 // Velocities of vertices from those on the edges: the public call `interpolate_from_edges`.
+#![tactic(auto)]
 
 ghost use Rattle.std.specs.Prelude.{◌≡◌, ◌*◌, ◌/◌, length};
 ghost use Rattle.lists.specs.Lists.{tabulate};

@@ -1,4 +1,6 @@
 // What both values passes ask before they write. Nothing here writes, and no function here is a public call.
+#![tactic(auto)]
+
 ghost use Rattle.std.specs.Prelude.{◌≡◌, ◌*◌, ◌≤◌, length};
 ghost use Rattle.questions.specs.Questions.{first_no, most_count};
 ghost use Rattle.questions.specs.Laws.{Sized, Channels};

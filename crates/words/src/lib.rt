@@ -1,6 +1,7 @@
 // Words of 32 bits as text, for programs that run vectors and print patterns: eight lower-case hexadecimal digits,
 // and one byte after them, a space or a line end. And the floats that words stand for: the language
 // has one NaN and no patterns of it, so every NaN is read as that one and written as 7fc00000.
+#![tactic(auto)]
 
 ghost use Rattle.std.specs.Prelude.{◌≡◌, ◌<◌};
 ghost use Rattle.std.specs.Float.{binary32, binary64};
@@ -11,7 +12,7 @@ const STDIN: i32 = 0;
 
 const STDOUT: i32 = 1;
 
-#[derive(Drop)]
+#[derive(Clone, Copy)]
 pub enum Word {
     Bits(u32),
     End,
