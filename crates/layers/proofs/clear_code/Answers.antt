@@ -1,0 +1,21 @@
+use Rattle.lists.specs.Laws.Tests.{said_no, said_yes}
+use Rattle.questions.specs.Laws.{sized, refuses, passes, ends}
+use Rattle.layers.specs.Calls.{clear_code}
+use Rattle.layers.proofs.clear_code.Goals as goal
+
+pub returns-then-not-sizes_ok : goal.returns-then-not-sizes_ok
+unfolding clear_code
+returns-then-not-sizes_ok c = refuses 1 _ (said_no c.sizes_ok.ensures c.if-not-sizes_ok.true-raw)
+
+pub layer_ok-requires : goal.layer_ok-requires
+layer_ok-requires c = sized 1 _ _ (said_yes c.sizes_ok.ensures c.if-not-sizes_ok.false-raw)
+
+pub returns-then-not-layer_ok : goal.returns-then-not-layer_ok
+unfolding clear_code
+returns-then-not-layer_ok c = passes 1 _ (said_yes c.sizes_ok.ensures c.if-not-sizes_ok.false-raw)
+    (refuses 4 _ (said_no c.layer_ok.ensures c.if-not-layer_ok.true-raw))
+
+pub returns : goal.returns
+unfolding clear_code
+returns c = passes 1 _ (said_yes c.sizes_ok.ensures c.if-not-sizes_ok.false-raw)
+    (passes 4 _ (said_yes c.layer_ok.ensures c.if-not-layer_ok.false-raw) ends)
