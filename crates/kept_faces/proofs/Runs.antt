@@ -10,8 +10,8 @@ use lib.Dec.{T, ltb, ltb→lt, nltb→le}
 use lib.ListN.{length, get_or, take, drop, length-drop, drop_of_length-le}
 use lib.Seq.{length-take-le, drop-drop, drop-cons, get_or-drop}
 use Rattle.offers.specs.Thinning.{kept_from}
-use Rattle.offers.specs.Laws.Order.{test}
-use Rattle.offers.specs.Laws.Thinning.{kept_skip, kept-first}
+use Rattle.offers.proofs.Laws.Order.{test}
+use Rattle.offers.proofs.Laws.Thinning.{kept_skip, kept-first}
 use Rattle.cells.specs.Layer.{Layer}
 use Rattle.cells.specs.Steps.{Spans}
 use Rattle.meshes.specs.Mesh.{Face, face, faces_of}
