@@ -18,7 +18,7 @@ use Rattle.meshes.specs.Mesh.{Face, face, faces_of}
 use Rattle.meshes.specs.Laws.{length-faces, part, faces-part}
 use Rattle.rules.specs.Offers.{Scene}
 use Rattle.rules.specs.Draw.{drawn}
-use Rattle.rules.specs.Laws.Paint.{spans-drawn, drawn_none, drawn-append}
+use Rattle.rules.proofs.Laws.Paint.{spans-drawn, drawn_none, drawn-append}
 use Rattle.removal_rules.specs.Removal.{kept_by}
 use Rattle.kept_faces.specs.Run.{kept_run}
 use Rattle.kept_faces.proofs.Marks.{counted}

@@ -17,9 +17,9 @@ use Rattle.offers.proofs.Laws.Removal.{is_there, was_brought}
 use Rattle.offers.proofs.Laws.Faces.{brought_number}
 use Rattle.cells.specs.Cell.{Hit, Cell, no_hit, numbered}
 use Rattle.cells.specs.Layer.{Layer, layer}
-use Rattle.cells.specs.Laws.Numbers.{numbered_number, with_number}
-use Rattle.cells.specs.Laws.Cells.{same_buffers}
-use Rattle.cells.specs.Laws.Pixels.{pixelwise_same}
+use Rattle.cells.proofs.Laws.Numbers.{numbered_number, with_number}
+use Rattle.cells.proofs.Laws.Cells.{same_buffers}
+use Rattle.cells.proofs.Laws.Pixels.{pixelwise_same}
 use Rattle.meshes.specs.Mesh.{Face}
 use Rattle.meshes.specs.View.{entry_at}
 use Rattle.rules.specs.Offers.{Scene, brings, brought, offers, Holds}

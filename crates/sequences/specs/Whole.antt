@@ -15,8 +15,8 @@ use Rattle.cells.specs.Cell.{Cell, no_hit, numbered}
 use Rattle.cells.specs.Layer.{Layer, at, pixelwise}
 use Rattle.cells.specs.Steps.{Spans}
 use Rattle.layers.specs.Calls.{exact_layer, clear_code, clearing, join_code, joining}
-use Rattle.cells.specs.Laws.Cells.{same_buffers}
-use Rattle.cells.specs.Laws.Pixels.{pixelwise_same, at-pixelwise, spans-pixelwise}
+use Rattle.cells.proofs.Laws.Cells.{same_buffers}
+use Rattle.cells.proofs.Laws.Pixels.{pixelwise_same, at-pixelwise, spans-pixelwise}
 use Rattle.meshes.specs.Mesh.{Face, faces_of, flat}
 use Rattle.meshes.specs.Laws.{length-flat, faces-flat}
 use Rattle.rules.specs.declared.Facing.{Facing}

@@ -12,7 +12,7 @@ use Rattle.offers.proofs.Laws.Greatest.{first-of-greatest}
 use Rattle.offers.proofs.Laws.Removal.{with_greatest}
 use Rattle.offers.proofs.Laws.Thinning.{renumber-empty, renumber-face, before_most}
 use Rattle.cells.specs.Cell.{Cell, no_hit}
-use Rattle.cells.specs.Laws.Numbers.{with_number}
+use Rattle.cells.proofs.Laws.Numbers.{with_number}
 use Rattle.meshes.specs.Mesh.{Face}
 use Rattle.meshes.specs.View.{entry_at}
 use Rattle.rules.specs.Offers.{Scene, brought, offers, Holds}
