@@ -7,7 +7,7 @@ use mathlib.Core.List.Memᴰ
 use mathlib.Core.List.{List, [], ◌∷◌, map, Memᴰ}
 use Rattle.offers.specs.Offer.{Offer, offer, renamed, lowest, exceeds, pick, offered}
 use Rattle.offers.specs.Offers.{proper, offers_of}
-use Rattle.offers.specs.Laws.Joins.{won}
+use Rattle.offers.proofs.Laws.Joins.{won}
 
 module _ {P Q : Type 0} (r : P → Q) where
   pick-renamed : (a b : Offer P) → pick (renamed r a) (renamed r b) ≡ renamed r (pick a b)

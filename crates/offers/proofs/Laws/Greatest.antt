@@ -6,7 +6,7 @@ use mathlib.Core.List.{List, [], ◌∷◌, ◌++◌, append_assoc, append-nil, 
 use Rattle.std.proofs.Math.Dec.{not_T}
 use Rattle.offers.specs.Offer.{Offer, offer, lowest, exceeds, pick, offered}
 use Rattle.offers.specs.Offers.{proper, offers_of, Greatest, Shows, uncovered, covered}
-use Rattle.offers.specs.Laws.Order.{test, lt_irrefl, lt_trans, not_lt_trans, above_number, not_above}
+use Rattle.offers.proofs.Laws.Order.{test, lt_irrefl, lt_trans, not_lt_trans, above_number, not_above}
 
 -- ---- in order, and one step
 

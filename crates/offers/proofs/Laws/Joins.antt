@@ -7,8 +7,8 @@ use Rattle.std.proofs.Math.Dec.{T}
 use Rattle.std.specs.Float.Ieee.{is_nan}
 use Rattle.offers.specs.Offer.{Offer, offer, lowest, exceeds, pick, offered}
 use Rattle.offers.specs.Offers.{proper}
-use Rattle.offers.specs.Laws.Order.{test, lt_trans, not_lt_trans, above_number, lt_irrefl}
-use Rattle.offers.specs.Laws.Greatest.{offered-append, pick_right, pick_left, pick_no_offer, above}
+use Rattle.offers.proofs.Laws.Order.{test, lt_trans, not_lt_trans, above_number, lt_irrefl}
+use Rattle.offers.proofs.Laws.Greatest.{offered-append, pick_right, pick_left, pick_no_offer, above}
 
 -- A depth that is no NaN. A join is not associative past a NaN in the middle; no layer that was cleared and drawn holds one.
 abbrev pub NotNan : {P : Type 0} → Offer P → Type 0

@@ -9,10 +9,10 @@ use Rattle.offers.specs.Offers as any
 use Rattle.cells.specs.Cell.{Cell, numbered}
 use Rattle.cells.specs.Layer.{Layer, at}
 use Rattle.cells.specs.Steps.{Spans}
-use Rattle.cells.specs.Laws.Pixels.{at-pixelwise, spans-pixelwise}
-use Rattle.offers.specs.Laws.Greatest.{offered-append}
-use Rattle.offers.specs.Laws.Faces.{brought-append}
-use Rattle.cells.specs.Laws.Cells.{same_layer}
+use Rattle.cells.proofs.Laws.Pixels.{at-pixelwise, spans-pixelwise}
+use Rattle.offers.proofs.Laws.Greatest.{offered-append}
+use Rattle.offers.proofs.Laws.Faces.{brought-append}
+use Rattle.cells.proofs.Laws.Cells.{same_layer}
 use Rattle.meshes.specs.Mesh.{Face}
 use Rattle.rules.specs.Offers.{Scene, brings, brought}
 use Rattle.rules.specs.Draw.{painted, drawn}

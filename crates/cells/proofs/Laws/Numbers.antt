@@ -3,7 +3,7 @@ use Rattle.std.specs.Prelude.{ℕ, ◌≡◌, refl, Float}
 use mathlib.Core.List.{List, ◌++◌, map, map-append, Memᴰ}
 use Rattle.geometry.specs.Vector.{Weights}
 use Rattle.offers.specs.Offer.{Offer, renamed}
-use Rattle.offers.specs.Laws.Renaming.{renamed_has, renamed_twice}
+use Rattle.offers.proofs.Laws.Renaming.{renamed_has, renamed_twice}
 use Rattle.cells.specs.Cell.{Candidate, Hit, hit, Cell, numbered}
 
 pub numbered-append : (k : ℕ) (xs ys : List Candidate) → numbered k (xs ++ ys) ≡ numbered k xs ++ numbered k ys

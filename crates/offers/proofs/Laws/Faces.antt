@@ -12,9 +12,9 @@ use Rattle.std.proofs.Math.ListN.{length}
 use Rattle.offers.specs.Offer.{Offer, renamed, pick}
 use Rattle.offers.specs.Offers.{brought, offers_of, Greatest}
 use Rattle.offers.specs.Thinning.{kept_from, kept_before}
-use Rattle.offers.specs.Laws.Joins.{won, won-append}
-use Rattle.offers.specs.Laws.Removal.{kept_offers, all_kept, none_kept, kept_append, kept-offers, won-kept}
-use Rattle.offers.specs.Laws.Renaming.{offers-renamed, won-renamed}
+use Rattle.offers.proofs.Laws.Joins.{won, won-append}
+use Rattle.offers.proofs.Laws.Removal.{kept_offers, all_kept, none_kept, kept_append, kept-offers, won-kept}
+use Rattle.offers.proofs.Laws.Renaming.{offers-renamed, won-renamed}
 
 module _ {F P : Type 0} (bring : ℕ → F → List (Offer P)) where
   pub brought-append : (k : ℕ) (xs ys : List F) → brought bring k (xs ++ ys) ≡ brought bring k xs ++ brought bring (k + length xs) ys

@@ -8,8 +8,8 @@ use mathlib.Core.List.{List, [], ◌∷◌, ◌++◌, Memᴰ}
 use Rattle.std.proofs.Math.Dec.{T}
 use Rattle.offers.specs.Offer.{Offer, exceeds}
 use Rattle.offers.specs.Offers.{proper, offers_of, Exceeded, Greatest, Shows, uncovered, covered}
-use Rattle.offers.specs.Laws.Greatest.{first-of-greatest, greatest_unique, overtaken}
-use Rattle.offers.specs.Laws.Joins.{won}
+use Rattle.offers.proofs.Laws.Greatest.{first-of-greatest, greatest_unique, overtaken}
+use Rattle.offers.proofs.Laws.Joins.{won}
 
 -- the offers whose payload passes
 unfoldable pub kept_offers : {P : Type 0} → (P → Bool) → List (Offer P) → List (Offer P)

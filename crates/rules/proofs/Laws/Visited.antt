@@ -17,8 +17,8 @@ use Rattle.offers.specs.Offer.{offered}
 use Rattle.cells.specs.Cell.{Cell, numbered}
 use Rattle.cells.specs.Layer.{Layer, at}
 use Rattle.cells.specs.Steps.{Spans, written}
-use Rattle.cells.specs.Laws.Cells.{same_layer, at-written, at_other, spans-written}
-use Rattle.cells.specs.Laws.Pixels.{spans_reaches}
+use Rattle.cells.proofs.Laws.Cells.{same_layer, at-written, at_other, spans-written}
+use Rattle.cells.proofs.Laws.Pixels.{spans_reaches}
 use Rattle.rules.specs.declared.Facing.{Facing}
 use Rattle.rules.specs.Piece.{Piece}
 use Rattle.rules.specs.Scan.{screened, scans, candidate}
@@ -26,8 +26,8 @@ use Rattle.rules.specs.Offers.{piece_brings}
 use Rattle.rules.specs.Draw.{painted}
 use Rattle.rules.specs.Load.{piece_pixels}
 use Rattle.rules.specs.Visits.{visits, visited, piece_cells, stopped_after}
-use Rattle.rules.specs.Laws.Paint.{at-painted, spans-painted}
-use Rattle.rules.specs.Laws.Visits.{cond_both, visits_once, visits_many}
+use Rattle.rules.proofs.Laws.Paint.{at-painted, spans-painted}
+use Rattle.rules.proofs.Laws.Visits.{cond_both, visits_once, visits_many}
 
 -- `cs` is brought to a cell n times
 unfoldable pub again : ℕ → List Cell → Cell → Cell

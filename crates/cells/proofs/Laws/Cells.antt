@@ -6,7 +6,7 @@ use Rattle.geometry.specs.Vector.{Weights}
 use Rattle.cells.specs.Cell.{Cell, cell}
 use Rattle.cells.specs.Layer.{Layer, layer, at}
 use Rattle.cells.specs.Steps.{Spans, Reaches, written}
-use Rattle.cells.specs.Laws.Weights.{length_with, weights_there, weights_other, same_weights}
+use Rattle.cells.proofs.Laws.Weights.{length_with, weights_there, weights_other, same_weights}
 
 -- the parts are the whole
 pub same_buffers : {ns ns' : List ℕ} {ds ds' bs bs' : List Float} → ns ≡ ns' → ds ≡ ds' → bs ≡ bs' → layer ns ds bs ≡ layer ns' ds' bs'

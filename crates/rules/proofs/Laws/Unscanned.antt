@@ -10,8 +10,8 @@ use Rattle.rules.specs.Piece.{Piece}
 use Rattle.rules.specs.Scan.{screened, centre_at, in_closed_box, finite_in_pixels, scans, counts, depth_at, candidate}
 use Rattle.rules.specs.Offers.{Scene, piece_brings, brought}
 use Rattle.rules.specs.Draw.{painted, drawn}
-use Rattle.rules.specs.Laws.Finite.{nowhere}
-use Rattle.rules.specs.Laws.Instead.{brought_by, brought-by, drawn-by}
+use Rattle.rules.proofs.Laws.Finite.{nowhere}
+use Rattle.rules.proofs.Laws.Instead.{brought_by, brought-by, drawn-by}
 
 -- under the scan as it was
 unfoldable pub candidate_before : (Float → Bool) → Triangle (Vec3 Float) → ℕ → ℕ → List Candidate

@@ -16,17 +16,13 @@ use Rattle.cells.specs.Layer.{Layer}
 use Rattle.meshes.specs.Mesh.{Face}
 use Rattle.rules.specs.declared.Facing.TheVariants.{All, Front}
 use Rattle.rules.specs.Piece.{Piece}
+use Rattle.rules.specs.Weighs.{Weighs}
 use Rattle.rules.specs.Scan.{screened, centre_at, scans, counts, kept, weighed_depth, depth_at, candidate}
 use Rattle.rules.specs.Offers.{Scene, piece_brings, brought}
 use Rattle.rules.specs.Draw.{painted, drawn}
-use Rattle.rules.specs.Laws.Instead.{brought_by, brought-by, drawn-by}
+use Rattle.rules.proofs.Laws.Instead.{brought_by, brought-by, drawn-by}
 
 -- ---- the sum of a point that has weights
-
--- it is finite, and never 0
-pub record Weighs (s : Float) : Type 0 where
-  pub is_finite : finite s ≡ true
-  pub not-zero : eq s floats.zero ≡ false
 
 weighs : (s : Float) → finite s && not (eq s floats.zero) ≡ true → Weighs s
 weighs s e = record { is_finite = (both (finite s) _ e).0; not-zero = no (eq s floats.zero) (both (finite s) _ e).1 }

@@ -7,8 +7,8 @@ use Rattle.lists.specs.Laws.Tables.{length-tabulate, get_or-tabulate, stored, st
 use Rattle.cells.specs.Cell.{Cell}
 use Rattle.cells.specs.Steps.{Spans, Reaches, written}
 use Rattle.cells.specs.Layer.{Layer, layer, at, pixelwise}
-use Rattle.cells.specs.Laws.Weights.{length_all, weights_all, all_same, weights_so_far, weights_none, weights-more, weights_done, weights_rest}
-use Rattle.cells.specs.Laws.Cells.{same_buffers, same_cell, spans-written}
+use Rattle.cells.proofs.Laws.Weights.{length_all, weights_all, all_same, weights_so_far, weights_none, weights-more, weights_done, weights_rest}
+use Rattle.cells.proofs.Laws.Cells.{same_buffers, same_cell, spans-written}
 
 -- The layer after the pixels below i have f's cells, in rising number.
 unfoldable pub so_far : (ℕ → Cell) → Layer → ℕ → Layer

@@ -9,7 +9,7 @@ use Rattle.meshes.specs.Mesh.{Face}
 use Rattle.rules.specs.Piece.{Piece}
 use Rattle.rules.specs.Offers.{Scene, face_pieces, piece_brings, pieces_bring, brings, brought}
 use Rattle.rules.specs.Draw.{painted, drawn}
-use Rattle.rules.specs.Laws.Paint.{painted_same}
+use Rattle.rules.proofs.Laws.Paint.{painted_same}
 
 module _ (one : Piece → ℕ → List Candidate) (sc : Scene) where
   -- what the faces of a list bring pixel p, where a piece brings `one`

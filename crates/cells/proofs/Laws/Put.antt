@@ -9,8 +9,8 @@ use Rattle.offers.specs.Offer.{lowest, exceeds, pick}
 use Rattle.cells.specs.Cell.{Cell}
 use Rattle.cells.specs.Layer.{Layer, at}
 use Rattle.cells.specs.Steps.{written, stepped}
-use Rattle.cells.specs.Laws.Weights.{weights-kept}
-use Rattle.cells.specs.Laws.Cells.{same_buffers}
+use Rattle.cells.proofs.Laws.Weights.{weights-kept}
+use Rattle.cells.proofs.Laws.Cells.{same_buffers}
 
 -- ---- what a test leaves written
 

@@ -10,7 +10,7 @@ use native.Mathlib.Omega.{arith}
 use Rattle.std.proofs.Math.Dec.{T}
 use Rattle.std.proofs.Math.ListN.{length}
 use Rattle.offers.specs.Thinning.{kept_from, kept_before, renumber}
-use Rattle.offers.specs.Laws.Order.{test}
+use Rattle.offers.proofs.Laws.Order.{test}
 
 module _ (empty : ℕ) (keep : ℕ → Bool) where
   pub renumber-empty : renumber empty keep empty ≡ empty
