@@ -18,7 +18,7 @@ use Rattle.views.specs.Alike.{Alike}
 -- r renumbers the entries of a map of n faces for a list of n': empty stays empty, no two entries that occur become one, and each names a face before and after.
 pub record Renumbers (r : ℕ → ℕ) (names : List ℕ) (n n' : ℕ) : Type 0 where
   pub empty_stays : r empty ≡ empty
-  pub apart : (p q : ℕ) → r (entry_at names p) ≡ r (entry_at names q) → entry_at names p ≡ entry_at names q
+  pub apart : (i j : ℕ) → r (entry_at names i) ≡ r (entry_at names j) → entry_at names i ≡ entry_at names j
   pub was_there : (p : ℕ) → (entry_at names p ≡ empty → ⊥) → entry_at names p < n
   pub is_there : (p : ℕ) → (entry_at names p ≡ empty → ⊥) → r (entry_at names p) < n'
 

@@ -69,8 +69,10 @@ below_or_above : (x : Float) → Weighs x → lt x floats.zero ≡ not (lt float
 unfolding lt eq of_bits
 below_or_above nan w = absurd (false≢true w.is_finite)
 below_or_above (inf s) w = absurd (false≢true w.is_finite)
-below_or_above (fin s m e) w =
-    rw (zero-mul (down e)) (sign_of s (m * up e * 1) (ap (level s (m * up e * 1) false) (sym (zero-mul (down e))) ∙ w.not-zero))
+below_or_above (fin s m e) w = at_zero (0 * down e) (zero-mul (down e)) w.not-zero
+  where
+    at_zero : (z : ℕ) → z ≡ 0 → level s (m * up e * 1) false z ≡ false → below s (m * up e * 1) false z ≡ not (below false z s (m * up e * 1))
+    at_zero z h n = rw h (sign_of s (m * up e * 1) (rw h at n))
 
 -- what the front leaves out is what it counts of the piece turned round
 pub left_out : (turned : Bool) (x : Float) → Weighs x → counts Front (not turned) x ≡ not (counts Front turned x)

@@ -1,0 +1,45 @@
+-- `roots::sqrt_f64` meets its contract: a law over the format for each way out. Assumes nothing.
+use mathlib.Core.Path.{refl, sym, ap, ◌∙◌, subst}
+use native.Mathlib.Omega.{arith}
+use lib.Dec.{T}
+use lib.Ieee.{binary64, fits}
+use lib.Ieee.Compare.{differs_from_itself}
+use Rattle.roots.specs.Root.{root}
+use Rattle.roots.specs.Laws.Nan.{zero-over-zero, number}
+use Rattle.roots.proofs.Fields.{root_nan, root-zero, root-minus, root_infinite}
+use Rattle.roots.proofs.Standard.{answer, square_root}
+use Rattle.roots.proofs.sqrt_f64.Goals as goal
+
+pub returns-then-x : goal.returns-then-x
+returns-then-x c =
+    let held : T (fits binary64 c.args.x) = subst T (sym c.well_formed.0.1) tt in
+    let nan = differs_from_itself c.args.x (subst T (sym c.if-x.true) tt) in
+    square_root binary64 c.args.x _ held (zero-over-zero binary64 ∙ sym (ap (root binary64) nan ∙ root_nan binary64))
+
+pub float_to_bits-b : goal.float_to_bits-b
+float_to_bits-b c = number c.args.x c.if-x.false
+
+pub returns-then-b-eq0 : goal.returns-then-b-eq0
+returns-then-b-eq0 c =
+    let held : T (fits binary64 c.args.x) = subst T (sym c.well_formed.0.1) tt in
+    square_root binary64 c.args.x _ held (root-zero binary64 _ held c.if-b-eq0.true)
+
+pub returns-then-b-gt9218868437227405312 : goal.returns-then-b-gt9218868437227405312
+returns-then-b-gt9218868437227405312 c =
+    let held : T (fits binary64 c.args.x) = subst T (sym c.well_formed.0.1) tt in
+    square_root binary64 c.args.x _ held (zero-over-zero binary64 ∙ root-minus binary64 _ held (number c.args.x c.if-x.false) c.if-b-eq0.false c.if-b-gt9218868437227405312.true)
+
+pub returns-then-b-eq9218868437227405312 : goal.returns-then-b-eq9218868437227405312
+returns-then-b-eq9218868437227405312 c =
+    let held : T (fits binary64 c.args.x) = subst T (sym c.well_formed.0.1) tt in
+    square_root binary64 c.args.x _ held (root_infinite binary64 _ held c.if-b-eq9218868437227405312.true)
+
+pub float_from_bits-result : goal.float_from_bits-result
+float_from_bits-result c =
+    let held : T (fits binary64 c.args.x) = subst T (sym c.well_formed.0.1) tt in
+    (answer binary64 _ held (omega arith) (omega arith) _ (c.root_pattern.ensures binary64 refl refl (omega arith))).number
+
+pub returns : goal.returns
+returns c =
+    let held : T (fits binary64 c.args.x) = subst T (sym c.well_formed.0.1) tt in
+    square_root binary64 c.args.x _ held (answer binary64 _ held (omega arith) (omega arith) _ (c.root_pattern.ensures binary64 refl refl (omega arith))).is
