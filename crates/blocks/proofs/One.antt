@@ -18,7 +18,7 @@ use Rattle.cells.specs.Steps.{written, stepped}
 use Rattle.cells.proofs.Laws.Put.{same_written, never_greater}
 use Rattle.pixels.specs.Pixel.{centre, centre_of}
 use Rattle.pixels.specs.Laws.{row-at, column-at}
-use Rattle.rules.specs.Scan.{depth_at, weighed_depth, kept, dropped, centre_at}
+use Rattle.rules.specs.Scan.{depth_at, weighed_depth, kept, dropped}
 use Rattle.rules.specs.Visits.{visited}
 use Rattle.lanes.specs.Answer.{or_lowest}
 use Rattle.blocks.specs.Rows.{depth_cells}

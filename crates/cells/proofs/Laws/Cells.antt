@@ -1,5 +1,5 @@
 -- Two layers are equal when their cells are. The cells after one is written.
-use Rattle.std.specs.Prelude.{ℕ, ◌*◌, ◌<◌, ◌≡◌, List, Float}
+use Rattle.std.specs.Prelude.{ℕ, ◌<◌, ◌≡◌, List, Float}
 use Rattle.std.proofs.Common.{sym, ap, ◌∙◌, arith, length-set, ext_get_or, get_or-set_same, get_or-set_other}
 use Rattle.std.specs.Float.{nan}
 use Rattle.geometry.specs.Vector.{Weights}

@@ -1,8 +1,7 @@
 -- What a face brings carries its number, and one with another number brings the same under that.
-use Rattle.std.specs.Prelude.{ℕ, ◌≡◌, refl, Float}
+use Rattle.std.specs.Prelude.{ℕ, ◌≡◌, refl}
 use mathlib.Core.List.{List, ◌++◌, map, map-append, Memᴰ}
-use Rattle.geometry.specs.Vector.{Weights}
-use Rattle.offers.specs.Offer.{Offer, renamed}
+use Rattle.offers.specs.Offer.{renamed}
 use Rattle.offers.proofs.Laws.Renaming.{renamed_has, renamed_twice}
 use Rattle.cells.specs.Cell.{Candidate, Hit, hit, Cell, numbered}
 

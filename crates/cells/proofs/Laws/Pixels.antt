@@ -2,7 +2,6 @@
 use Rattle.std.specs.Prelude.{ℕ, ◌+◌, ◌<◌, ◌≤◌, ◌≡◌}
 use Rattle.std.proofs.Common.{ap, ◌∙◌, zero-add, arith}
 use Rattle.std.specs.Float.{nan}
-use Rattle.lists.specs.Lists.{tabulate}
 use Rattle.lists.specs.Laws.Tables.{length-tabulate, get_or-tabulate, stored, stored_none, stored_more, stored_all, stored_rest, tabulate_same}
 use Rattle.cells.specs.Cell.{Cell}
 use Rattle.cells.specs.Steps.{Spans, Reaches, written}

@@ -1,5 +1,4 @@
 -- `cells::clear_pixels`: one pixel more is clear at each turn.
-use Prim.Native.Nat.{◌-◌}
 use mathlib.Core.Path.{sym, ◌∙◌, ap}
 use native.Mathlib.Omega.{arith}
 use borrow.Author.Rules.{rules}

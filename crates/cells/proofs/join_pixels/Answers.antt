@@ -1,5 +1,4 @@
 -- `cells::join_pixels`: one pixel more is joined at each turn.
-use Prim.Native.Nat.{◌-◌}
 use mathlib.Core.Path.{sym, ◌∙◌}
 use borrow.Author.Rules.{rules}
 use Rattle.cells.proofs.Laws.Pixels.{turned_none, turned_more, turned_all, spans_reaches}

@@ -1,5 +1,4 @@
 -- `faces::draw_faces`: one face less is left at each turn.
-use Prim.Native.Nat.{◌-◌}
 use mathlib.Core.Path.{refl, sym, ◌∙◌}
 use native.Mathlib.Omega.{arith}
 use Rattle.cells.specs.Layer.{layer}

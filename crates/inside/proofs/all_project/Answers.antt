@@ -1,8 +1,5 @@
-use Prim.Native.Nat.{◌-◌}
 use mathlib.Core.Path.{sym}
-use mathlib.Core.Bool.{true}
 use native.Mathlib.Omega.{arith}
-use Rattle.lists.specs.Lists.{every}
 use Rattle.lists.specs.Laws.Tests.{said_no, said_yes}
 use Rattle.lists.specs.Laws.Every.{every_none, every_next, every-not, every_ended}
 use Rattle.inside.specs.Steps.{all_project}

@@ -1,5 +1,4 @@
 -- `kept_faces::run_end`: the marks passed and those still to be counted are the run's.
-use Prim.Native.Nat.{◌-◌}
 use mathlib.Core.Path.{refl}
 use native.Mathlib.Omega.{arith}
 use Rattle.kept_faces.proofs.Marks.{run_more, run_stops, run-over}

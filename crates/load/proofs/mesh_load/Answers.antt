@@ -1,5 +1,4 @@
 -- `load::mesh_load`: a face more is counted at each turn.
-use Prim.Native.Nat.{◌-◌}
 use mathlib.Core.Path.{refl, ap}
 use native.Mathlib.Omega.{arith}
 use Rattle.questions.specs.Questions.{outcome}

@@ -1,5 +1,4 @@
 use borrow.Author.Rules.{rules}
-use Prim.Native.Nat.{◌-◌}
 use mathlib.Core.Path.{refl}
 use Rattle.pixel_bwd.specs.Additions.{to_val}
 use Rattle.meshes.specs.Laws.{turns_none, turns_more, turns_ended}

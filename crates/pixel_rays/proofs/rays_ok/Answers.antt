@@ -1,6 +1,4 @@
 use borrow.Author.Rules.{rules}
-use Prim.Native.Nat.{◌-◌}
-use mathlib.Core.Bool.{true}
 use native.Mathlib.Nat.{zero-mul}
 use Rattle.lists.specs.Laws.Tests.{said_no, said_yes}
 use Rattle.pixel_rays.specs.Rays.{rays_answer}

@@ -1,7 +1,5 @@
 use borrow.Author.Rules.{rules}
-use Prim.Native.Nat.{◌-◌}
 use mathlib.Core.Path.{◌∙◌}
-use mathlib.Core.Bool.{true}
 use native.Mathlib.Omega.{arith}
 use Rattle.lists.specs.Laws.Tests.{said_no, said_yes}
 use Rattle.lists.specs.Laws.Every.{row_below, every_none, every_one, every_more, every_stopped, every_ended}

@@ -1,9 +1,7 @@
 use borrow.Author.Rules.{rules}
-use Prim.Native.Nat.{◌-◌}
 use mathlib.Core.Path.{◌≡◌, refl, ◌∙◌, ap, ap₂}
 use native.Mathlib.Omega.{arith}
 use lib.ListN.{length, set}
-use Rattle.geometry.specs.Formula.{blend}
 use Rattle.lists.specs.Laws.Tables.{stored, stored_none, stored_more, stored_all}
 use Rattle.pixel_values.proofs.blend_run.Goals as goal
 

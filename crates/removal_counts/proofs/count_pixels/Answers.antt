@@ -1,5 +1,4 @@
 -- `removal_counts::count_pixels`: one pixel more is compared at each turn.
-use Prim.Native.Nat.{◌-◌}
 use mathlib.Core.Path.{ap}
 use native.Mathlib.Omega.{arith}
 use Rattle.questions.specs.Questions.{outcome}

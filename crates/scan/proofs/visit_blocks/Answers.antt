@@ -1,9 +1,8 @@
 -- `scan::visit_blocks`: four rows more at each turn.
-use Prim.Native.Nat.{◌+◌, ◌*◌, ◌-◌}
+use Prim.Native.Nat.{◌+◌, ◌*◌}
 use mathlib.Core.Path.{sym, ◌∙◌}
 use native.Mathlib.Omega.{arith}
 use Rattle.cells.specs.Layer.{layer}
-use Rattle.pixels.specs.Pixel.{centre}
 use Rattle.boxes.specs.Answer.{screen_of}
 use Rattle.lanes.specs.Answer.{within}
 use Rattle.blocks.specs.Rows.{depth_cells}

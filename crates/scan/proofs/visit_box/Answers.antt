@@ -1,5 +1,5 @@
 -- `scan::visit_box`: one column more at each turn, as long as visits are left.
-use Prim.Native.Nat.{◌*◌, ◌-◌}
+use Prim.Native.Nat.{◌*◌}
 use mathlib.Core.Path.{sym, ◌∙◌}
 use native.Mathlib.Omega.{arith}
 use Rattle.cells.specs.Layer.{layer}

@@ -1,5 +1,5 @@
 -- `scan::visit_rows`: one row more at each turn.
-use Prim.Native.Nat.{◌*◌, ◌-◌}
+use Prim.Native.Nat.{◌*◌}
 use mathlib.Core.Path.{sym, ◌∙◌}
 use native.Mathlib.Omega.{arith}
 use Rattle.cells.specs.Layer.{layer}

@@ -1,5 +1,4 @@
 -- `reach::settle_on`: on to the first that has reached x.
-use Prim.Native.Nat.{◌-◌}
 use native.Mathlib.Omega.{arith}
 use Rattle.lists.specs.Laws.Tests.{so}
 use Rattle.boxes.proofs.Reaching.{first-at, first_last, settled_more}
