@@ -2,7 +2,7 @@
 use Rattle.std.specs.Prelude.{ℕ, ◌/◌, ◌≡◌, List, Float, length}
 use Rattle.lists.specs.Laws.Tests.{both}
 use Rattle.questions.specs.Laws.{accepted, exactly}
-use Rattle.questions.specs.Laws.Opening.{opened, named_well}
+use Rattle.questions.proofs.Laws.Opening.{opened, named_well}
 use Rattle.meshes.specs.Laws.{sound}
 use Rattle.pixels.specs.Edge.{hedge}
 use Rattle.pairs.specs.Pairs.{EdgeView, all_answered, both_answered}

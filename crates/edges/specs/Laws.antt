@@ -3,7 +3,7 @@ use Rattle.std.specs.Prelude.{ℕ, ◌/◌, ◌≡◌, true, List, length}
 use Rattle.lists.specs.Laws.Tests.{both}
 use Rattle.questions.specs.Questions.{exact}
 use Rattle.questions.specs.Laws.{exactly, accepted}
-use Rattle.questions.specs.Laws.Opening.{opened, named_well}
+use Rattle.questions.proofs.Laws.Opening.{opened, named_well}
 use Rattle.meshes.specs.Laws.{sound}
 use Rattle.pixels.specs.Edge.{Axis, hedge, edge_count}
 use Rattle.pairs.specs.Pairs.{EdgeView}

@@ -15,7 +15,7 @@ use Rattle.vertex_values.specs.Pass.{Vertices}
 use Rattle.pixel_gradients.specs.Gradients.{incoming_at}
 use Rattle.pixel_bwd.specs.Additions.{pixel_xyz, pixel_val, Sums, sums}
 use Rattle.image_bwd.specs.Summed.{xyz_at, val_at, summed_over}
-use Rattle.image_bwd.specs.Laws.{over-one, over-more, over_ended}
+use Rattle.image_bwd.proofs.Laws.{over-one, over-more, over_ended}
 
 -- one pixel of a row, of its sums
 pub pixel-turn : (w h : ℕ) (m : List Float) (s : Vertices) (tri map : List ℕ) (dldw : List Float) (iy ix : ℕ) (x y : Float) (cur : Sums) {new : Sums} → ix < w

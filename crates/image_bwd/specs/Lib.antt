@@ -1,4 +1,2 @@
 -- 01, "Values and their backward pass": the pixels in rising number.
 pub mod Summed
--- proved of the definitions above
-pub mod Laws

@@ -1,2 +1,3 @@
 -- laws that the proofs share
+pub mod Laws
 pub mod Pixel

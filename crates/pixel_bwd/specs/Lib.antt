@@ -1,4 +1,2 @@
 -- 01, "Values and their backward pass": what one pixel adds in `interpolate_bwd`.
 pub mod Additions
--- proved of the definitions above
-pub mod Laws

@@ -6,7 +6,6 @@ use Rattle.std.proofs.Math.Nat.{div-add-mod}
 use Rattle.lists.specs.Laws.Tests.{both, else_is}
 use Rattle.lists.specs.Laws.Every.{every-at}
 use Rattle.questions.specs.Questions.{Question, ask, first_no, outcome, answer, sizes, channels, groups, slices, exact, all_below, names_face, empty, most_size, most_channels, most_count}
-pub mod Opening
 
 -- how a call's code comes of its answers: a no gives the question's number ..
 pub refuses : (n : ℕ) {a : Bool} (qs : List Question) → a ≡ false → n ≡ first_no (ask n a ∷ qs)

@@ -4,7 +4,7 @@ use Rattle.std.proofs.Common.{mul-le-mul, mul-le-mul_right, arith}
 use Rattle.lists.specs.Laws.Tests.{both}
 use Rattle.questions.specs.Questions.{exact, most_count}
 use Rattle.questions.specs.Laws.{Channels, accepted, exactly}
-use Rattle.questions.specs.Laws.Opening.{opened, named_well}
+use Rattle.questions.proofs.Laws.Opening.{opened, named_well}
 use Rattle.pixels.specs.Laws.{number_below}
 use Rattle.meshes.specs.Sound.{SoundMap}
 use Rattle.meshes.specs.Laws.{sound}

@@ -1,6 +1,6 @@
 use mathlib.Core.Path.{sym, ◌∙◌}
 use mathlib.Core.List.{[]}
-use Rattle.questions.specs.Laws.Opening.{first_refused, named_well, past_naming}
+use Rattle.questions.proofs.Laws.Opening.{first_refused, named_well, past_naming}
 use Rattle.meshes.specs.Laws.{sound}
 use Rattle.edge_bwd.proofs.closing_code.Goals as goal
 

@@ -2,7 +2,7 @@ use mathlib.Core.Path.{sym, ◌∙◌}
 use mathlib.Core.List.{[]}
 use Rattle.lists.specs.Laws.Tests.{said_no, said_yes}
 use Rattle.questions.specs.Laws.{refuses, passes, ends}
-use Rattle.questions.specs.Laws.Opening.{first_refused, named_well, past_naming}
+use Rattle.questions.proofs.Laws.Opening.{first_refused, named_well, past_naming}
 use Rattle.meshes.specs.Laws.{sound}
 use Rattle.edges.proofs.closing_code.Goals as goal
 

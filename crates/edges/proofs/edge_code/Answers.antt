@@ -2,7 +2,7 @@ use mathlib.Core.Path.{sym, ◌∙◌}
 use mathlib.Core.List.{[]}
 use Rattle.lists.specs.Laws.Tests.{said_no, said_yes, after_no, after_yes}
 use Rattle.questions.specs.Laws.{refuses, passes}
-use Rattle.questions.specs.Laws.Opening.{first_refused, opened, past_opening}
+use Rattle.questions.proofs.Laws.Opening.{first_refused, opened, past_opening}
 use Rattle.pairs.specs.Laws.{pixels_exact}
 use Rattle.edges.specs.Calls.{edge_code}
 use Rattle.edges.proofs.edge_code.Goals as goal

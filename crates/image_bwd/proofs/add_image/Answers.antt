@@ -1,7 +1,7 @@
 use borrow.Author.Rules.{rules}
 use mathlib.Core.Path.{refl, ◌∙◌}
 use native.Mathlib.Nat.{zero-mul}
-use Rattle.image_bwd.specs.Laws.{over_none}
+use Rattle.image_bwd.proofs.Laws.{over_none}
 use Rattle.image_bwd.proofs.Turns.{rows-turn, rows_all}
 use Rattle.image_bwd.proofs.add_image.Goals as goal
 

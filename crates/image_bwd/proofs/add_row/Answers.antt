@@ -7,7 +7,7 @@ use Rattle.vertex_values.specs.Pass.{vertices}
 use Rattle.lists.specs.Laws.Every.{row_below}
 use Rattle.vertex_values.specs.Laws.{run_at}
 use Rattle.pixel_bwd.specs.Additions.{sums}
-use Rattle.image_bwd.specs.Laws.{over_none, over-more, over_ended}
+use Rattle.image_bwd.proofs.Laws.{over_none, over-more, over_ended}
 use Rattle.image_bwd.proofs.Turns.{pixel-turn}
 use Rattle.image_bwd.proofs.add_row.Goals as goal
 

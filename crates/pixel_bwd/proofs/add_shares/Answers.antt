@@ -1,6 +1,6 @@
 use Rattle.geometry.specs.Vector.{vec3, triangle}
 use Rattle.meshes.specs.Mesh.{face}
-use Rattle.pixel_bwd.specs.Laws.{axes}
+use Rattle.pixel_bwd.proofs.Laws.{axes}
 use Rattle.pixel_bwd.proofs.add_shares.Goals as goal
 
 pub returns : goal.returns

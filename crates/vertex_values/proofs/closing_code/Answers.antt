@@ -1,7 +1,7 @@
 use mathlib.Core.Path.{sym, ◌∙◌}
 use Rattle.lists.specs.Laws.Tests.{said_no, said_yes}
 use Rattle.questions.specs.Laws.{refuses, passes, ends}
-use Rattle.questions.specs.Laws.Opening.{first_refused, past_naming}
+use Rattle.questions.proofs.Laws.Opening.{first_refused, past_naming}
 use Rattle.vertex_values.proofs.closing_code.Goals as goal
 
 pub returns-then-code-ne0 : goal.returns-then-code-ne0

@@ -2,7 +2,7 @@ use mathlib.Core.Path.{sym, ◌∙◌}
 use mathlib.Core.List.{[]}
 use Rattle.lists.specs.Laws.Tests.{said_no, said_yes, after_no, after_yes}
 use Rattle.questions.specs.Laws.{refuses, passes}
-use Rattle.questions.specs.Laws.Opening.{first_refused, opened, past_opening}
+use Rattle.questions.proofs.Laws.Opening.{first_refused, opened, past_opening}
 use Rattle.vertex_values.specs.Questions.{pass_code}
 use Rattle.vertex_values.specs.Laws.{exact_parts}
 use borrow.Author.Tests.{not-true, not-false}
