@@ -22,10 +22,11 @@ use Rattle.meshes.specs.Mesh.{flat}
 use Rattle.meshes.specs.View.{view_of}
 use Rattle.views.specs.Alike.{Alike}
 use Rattle.sequences.specs.Whole.{fresh}
-use Rattle.sequences.specs.Mesh.{threes_of, few_of}
+use Rattle.sequences.proofs.Mesh.{threes_of, few_of}
 use Rattle.sequences.specs.Redrawn.{renumbered}
-use Rattle.sequences.specs.Thinned.{alike}
-use Rattle.sequences.specs.Case.{Case, faces, kept_faces, full, final, Pictures, pictures, mesh_answered, full_is, final-renumbered}
+use Rattle.sequences.proofs.Thinned.{alike}
+use Rattle.sequences.specs.Case.{Case, faces, kept_faces, full, final, Pictures}
+use Rattle.sequences.proofs.Case.{pictures, mesh_answered, full_is, final-renumbered}
 use Rattle.labels.specs.Labels.{labelling}
 use Rattle.pixel_rays.specs.Rays.{Image}
 use Rattle.vertex_values.specs.Pass.{Vertices, vertices}

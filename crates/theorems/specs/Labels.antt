@@ -12,7 +12,8 @@ use Rattle.labels.specs.Labels.{body_of, labelling}
 use Rattle.labels.specs.Laws.Renumbered.{relabelled}
 use Rattle.rules.specs.Offers.{Scene}
 use Rattle.sequences.specs.Redrawn.{drawn_map}
-use Rattle.sequences.specs.Thinned.{Idle, renumbers, beside_kept}
+use Rattle.sequences.specs.Thinned.{Idle}
+use Rattle.sequences.proofs.Thinned.{renumbers, beside_kept}
 
 module _ (sc : Scene) (fs : List Face) (keep : ℕ → Bool) (few : length fs ≤ most_count) (idle : Idle sc fs keep) (t : List ℕ) (one_each : length t ≡ length fs) where
   abbrev kept : List ℕ

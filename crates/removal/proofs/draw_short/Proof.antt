@@ -2,7 +2,7 @@
 use native.Mathlib.Omega.{arith}
 use borrow.Author.Rules.{rules}
 use Rattle.questions.specs.Laws.{area}
-use Rattle.sequences.specs.Whole.{cleared-spans, drawn-fresh}
+use Rattle.sequences.proofs.Whole.{cleared-spans, drawn-fresh}
 use Rattle.removal.proofs.draw_short.Statement.{statement}
 use Rattle.removal.proofs.draw_short.Tie as tie
 

@@ -6,7 +6,7 @@ use Rattle.lists.specs.Lists.{every}
 use Rattle.cells.specs.Layer.{Layer, layer}
 use Rattle.labels.specs.Labels.{body_of, label, labelled, label_code, labelling}
 use Rattle.labels.specs.Screen.{empty_at, body_at, SameBodies, screen}
-use Rattle.sequences.specs.Instance.{left_first, four-faces}
+use Rattle.sequences.proofs.Instance.{left_first, four-faces}
 use Rattle.sequences.specs.Example as example
 use Rattle.sequences.specs.Example.{quarter, half, four, twelve, in_t}
 use Rattle.theorems.specs.Demand3.{Labels, demand3}
