@@ -1,6 +1,6 @@
 /* The calls of libpaqelzim.a, for C and C++.
  *
- * Make the archive by `rt staticlib paqelzim` at the root of the repository (target/staticlib/libpaqelzim.a)
+ * Make the archive by `tools/staticlib` of the repository (target/staticlib/libpaqelzim.a)
  * and link it; it needs no other library. Each call is proved to give what the definitions in crates/<name>/specs
  * say, for every argument.
  *

@@ -13,7 +13,7 @@ use lib.Ieee.Back.{round_whole}
 use lib.Ieee.Scale.{round_same}
 use lib.Ieee.Fits.{down_pos}
 use Rattle.pixels.specs.Pixel.{centre, half}
-use Rattle.rules.specs.Laws.Centre.{centre_is}
+use Rattle.rules.proofs.Laws.Centre.{centre_is}
 
 twice : (a d k : ℕ) → a * 1 ≡ k * d → (a * 2 + 1 * 1 * d) * 2 ≡ (k + k + 1) * (d * 2)
 twice a d k e = omega (arith, e)

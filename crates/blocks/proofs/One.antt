@@ -15,7 +15,7 @@ use Rattle.offers.specs.Offer.{offer, renamed, lowest, exceeds, pick, offered}
 use Rattle.cells.specs.Cell.{Candidate, Cell, cell, numbered}
 use Rattle.cells.specs.Layer.{Layer, at}
 use Rattle.cells.specs.Steps.{written, stepped}
-use Rattle.cells.specs.Laws.Put.{same_written, never_greater}
+use Rattle.cells.proofs.Laws.Put.{same_written, never_greater}
 use Rattle.pixels.specs.Pixel.{centre, centre_of}
 use Rattle.pixels.specs.Laws.{row-at, column-at}
 use Rattle.rules.specs.Scan.{depth_at, weighed_depth, kept, dropped, centre_at}

@@ -9,7 +9,7 @@ use lib.Dec.{leb, ltb}
 use lib.Ieee.{Float, le}
 use Rattle.pixels.specs.Pixel.{centre}
 use Rattle.rules.specs.Scan.{between}
-use Rattle.rules.specs.Laws.Centre.{low_centre, high_centre}
+use Rattle.rules.proofs.Laws.Centre.{low_centre, high_centre}
 use Rattle.boxes.specs.Reach.{reached, Settled, FirstReached}
 use Rattle.boxes.specs.Box.{in_range}
 

@@ -2,5 +2,3 @@
 pub mod Cell
 pub mod Layer
 pub mod Steps
--- proved of the definitions above, for the proofs of this crate and of those above it
-pub mod Laws

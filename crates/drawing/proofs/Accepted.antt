@@ -11,7 +11,7 @@ use Rattle.questions.specs.Laws.{call_refused, call_done, Sized, sized, sliced, 
 use Rattle.cells.specs.Layer.{Layer}
 use Rattle.cells.specs.Steps.{Spans}
 use Rattle.layers.specs.Calls.{exact_layer}
-use Rattle.layers.specs.Laws.Answers.{exact-spans}
+use Rattle.layers.proofs.Laws.Answers.{exact-spans}
 use Rattle.meshes.specs.Mesh.{faces_of}
 use Rattle.meshes.specs.Sound.{SoundMesh}
 use Rattle.meshes.specs.Laws.{sound_mesh}

@@ -12,7 +12,7 @@ use Rattle.meshes.specs.Mesh.{Face, face_at, faces_of}
 use Rattle.meshes.specs.Laws.{length-faces, faces-from}
 use Rattle.rules.specs.Offers.{Scene, face_pieces, brings, brought}
 use Rattle.rules.specs.Draw.{painted, drawn}
-use Rattle.rules.specs.Laws.Paint.{spans-painted, painted_same, painted-append, drawn_none}
+use Rattle.rules.proofs.Laws.Paint.{spans-painted, painted_same, painted-append, drawn_none}
 use Rattle.raster.specs.Face.{pieces_cells}
 
 module _ (sc : Scene) where

@@ -10,15 +10,15 @@ use lib.Dec.{T, ltb, ltb→lt, nltb→le}
 use lib.ListN.{length, get_or, take, drop, length-drop, drop_of_length-le}
 use lib.Seq.{length-take-le, drop-drop, drop-cons, get_or-drop}
 use Rattle.offers.specs.Thinning.{kept_from}
-use Rattle.offers.specs.Laws.Order.{test}
-use Rattle.offers.specs.Laws.Thinning.{kept_skip, kept-first}
+use Rattle.offers.proofs.Laws.Order.{test}
+use Rattle.offers.proofs.Laws.Thinning.{kept_skip, kept-first}
 use Rattle.cells.specs.Layer.{Layer}
 use Rattle.cells.specs.Steps.{Spans}
 use Rattle.meshes.specs.Mesh.{Face, face, faces_of}
 use Rattle.meshes.specs.Laws.{length-faces, part, faces-part}
 use Rattle.rules.specs.Offers.{Scene}
 use Rattle.rules.specs.Draw.{drawn}
-use Rattle.rules.specs.Laws.Paint.{spans-drawn, drawn_none, drawn-append}
+use Rattle.rules.proofs.Laws.Paint.{spans-drawn, drawn_none, drawn-append}
 use Rattle.removal_rules.specs.Removal.{kept_by}
 use Rattle.kept_faces.specs.Run.{kept_run}
 use Rattle.kept_faces.proofs.Marks.{counted}

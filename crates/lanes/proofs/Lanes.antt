@@ -10,7 +10,7 @@ use Rattle.geometry.specs.Vector.{Vec3, Weights, weights, Triangle}
 use Rattle.geometry.specs.Formula.{over_total, blend}
 use Rattle.geometry.specs.Leaf.{weighed, with_sum}
 use Rattle.offers.specs.Offer.{lowest}
-use Rattle.cells.specs.Laws.Put.{never_greater}
+use Rattle.cells.proofs.Laws.Put.{never_greater}
 use Rattle.rules.specs.Scan.{weighed_depth, kept, drop_below, dropped}
 use Rattle.lanes.specs.declared.Side.{Side}
 use Rattle.lanes.specs.Answer.{within, or_lowest}

@@ -7,7 +7,7 @@ ghost use Rattle.std.specs.Float.Ieee.{lt, le};
 ghost use Rattle.geometry.specs.Vector.{vec2, weights};
 ghost use Rattle.offers.specs.Offer.{lowest};
 ghost use Rattle.rules.specs.Scan as rule;
-ghost use Rattle.rules.specs.Laws.Facing.{Weighs};
+ghost use Rattle.rules.specs.Weighs.{Weighs};
 ghost use Rattle.boxes.specs.Answer.{screen_of};
 ghost use Rattle.lanes.specs.Answer.{within, or_lowest};
 

@@ -1,2 +1,4 @@
+-- proved of the definitions in specs/, for the proofs of this crate and of those above it
+pub mod Laws
 -- laws that the calls' proofs cite
 pub mod Calls

@@ -12,7 +12,7 @@ use Rattle.meshes.specs.Laws.{length-faces, faces-from}
 use Rattle.rules.specs.Piece.{Piece}
 use Rattle.rules.specs.Offers.{Scene, face_pieces}
 use Rattle.rules.specs.Load.{charge, piece_pixels, face_pixels, load, load_of}
-use Rattle.rules.specs.Laws.Load.{together, load_none, load-more, charge_most, face_most}
+use Rattle.rules.proofs.Laws.Load.{together, load_none, load-more, charge_most, face_most}
 
 -- Before face i: what is counted and the load of the faces left make the whole, and nothing can wrap.
 pub record Counted (sc : Scene) (fs : List Face) (i pieces pixels : ℕ) : Type 0 where

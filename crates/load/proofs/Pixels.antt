@@ -15,7 +15,7 @@ use Rattle.pixels.specs.Laws.{area_below, count_pixels}
 use Rattle.rules.specs.Piece.{Piece}
 use Rattle.rules.specs.Scan.{screened, scans}
 use Rattle.rules.specs.Load.{piece_pixels}
-use Rattle.rules.specs.Laws.Load.{piece_most}
+use Rattle.rules.proofs.Laws.Load.{piece_most}
 use Rattle.boxes.specs.Reach.{holds_centre}
 use Rattle.boxes.proofs.Scans.{by_axes}
 

@@ -2,5 +2,3 @@
 pub mod Offer
 pub mod Offers
 pub mod Thinning
--- proved of the definitions above, for the crates above
-pub mod Laws

@@ -1,5 +1,5 @@
-// The public calls as C sees them: every function here, and nothing else, is exported. Each passes
-// its arguments on, and promises what the callee's definition says.
+// The public calls, each under the name that C calls it by: every function here, and nothing else. Each passes
+// its arguments on, and promises what the callee's definition says. `paqelzim_c` exports them.
 #![tactic(auto)]
 
 ghost use Rattle.std.specs.Prelude.{◌≡◌};
@@ -31,8 +31,7 @@ ghost use Rattle.velocity.specs.Calls.{velocities};
 use load::DrawingLoad;
 use removal_counts::RemovalPreview;
 
-#[unsafe(no_mangle)]
-pub extern "C" fn paqelzim_clear(
+pub fn paqelzim_clear(
     pix2tri: &mut [u32],
     pix2depth: &mut [f32],
     pix2weights: &mut [f32],
@@ -44,8 +43,7 @@ pub extern "C" fn paqelzim_clear(
     layers::clear(pix2tri, pix2depth, pix2weights, img_w, img_h)
 }
 
-#[unsafe(no_mangle)]
-pub extern "C" fn paqelzim_pix2tri_by_rasterization(
+pub fn paqelzim_pix2tri_by_rasterization(
     pix2tri: &mut [u32],
     pix2depth: &mut [f32],
     pix2weights: &mut [f32],
@@ -74,8 +72,7 @@ pub extern "C" fn paqelzim_pix2tri_by_rasterization(
     )
 }
 
-#[unsafe(no_mangle)]
-pub extern "C" fn paqelzim_drawing_load(
+pub fn paqelzim_drawing_load(
     tri2vtx: &[u32],
     vtx2xyz: &[f32],
     img_w: usize,
@@ -87,8 +84,7 @@ pub extern "C" fn paqelzim_drawing_load(
     load::drawing_load(tri2vtx, vtx2xyz, img_w, img_h, transform_world2ndc)
 }
 
-#[unsafe(no_mangle)]
-pub extern "C" fn paqelzim_preview_removal(
+pub fn paqelzim_preview_removal(
     tri2vtx: &[u32],
     vtx2xyz: &[f32],
     img_w: usize,
@@ -124,8 +120,7 @@ pub extern "C" fn paqelzim_preview_removal(
     )
 }
 
-#[unsafe(no_mangle)]
-pub extern "C" fn paqelzim_join(
+pub fn paqelzim_join(
     left_pix2tri: &mut [u32],
     left_pix2depth: &mut [f32],
     left_pix2weights: &mut [f32],
@@ -151,8 +146,7 @@ pub extern "C" fn paqelzim_join(
     )
 }
 
-#[unsafe(no_mangle)]
-pub extern "C" fn paqelzim_label_picture(
+pub fn paqelzim_label_picture(
     pix2tri: &[u32],
     tri2body: &[u32],
     img_w: usize,
@@ -164,8 +158,7 @@ pub extern "C" fn paqelzim_label_picture(
     labels::label_picture(pix2tri, tri2body, img_w, img_h, pix2body)
 }
 
-#[unsafe(no_mangle)]
-pub extern "C" fn paqelzim_interpolate(
+pub fn paqelzim_interpolate(
     img_w: usize,
     img_h: usize,
     pix2tri: &[u32],
@@ -193,8 +186,7 @@ pub extern "C" fn paqelzim_interpolate(
     )
 }
 
-#[unsafe(no_mangle)]
-pub extern "C" fn paqelzim_interpolate_bwd(
+pub fn paqelzim_interpolate_bwd(
     img_w: usize,
     img_h: usize,
     pix2tri: &[u32],
@@ -226,8 +218,7 @@ pub extern "C" fn paqelzim_interpolate_bwd(
     )
 }
 
-#[unsafe(no_mangle)]
-pub extern "C" fn paqelzim_edge_gradient_and_type(
+pub fn paqelzim_edge_gradient_and_type(
     tri2vtx: &[u32],
     vtx2xyz: &[f32],
     transform_world2pix: &[f32; 16],
@@ -265,8 +256,7 @@ pub extern "C" fn paqelzim_edge_gradient_and_type(
     )
 }
 
-#[unsafe(no_mangle)]
-pub extern "C" fn paqelzim_bwd(
+pub fn paqelzim_bwd(
     tri2vtx: &[u32],
     vtx2xyz: &[f32],
     dldw_vtx2xyz: &mut [f32],
@@ -297,8 +287,7 @@ pub extern "C" fn paqelzim_bwd(
     )
 }
 
-#[unsafe(no_mangle)]
-pub extern "C" fn paqelzim_interpolate_from_edges(
+pub fn paqelzim_interpolate_from_edges(
     img_w: usize,
     img_h: usize,
     hedge2vy: &[f32],
@@ -312,29 +301,25 @@ pub extern "C" fn paqelzim_interpolate_from_edges(
     velocity::interpolate_from_edges(img_w, img_h, hedge2vy, vedge2vx, vtx2xy, vtx2velo)
 }
 
-#[unsafe(no_mangle)]
-pub extern "C" fn paqelzim_sqrt_f32(x: f32) -> f32
+pub fn paqelzim_sqrt_f32(x: f32) -> f32
     ensures { SquareRoot binary32 x result }
 {
     roots::sqrt_f32(x)
 }
 
-#[unsafe(no_mangle)]
-pub extern "C" fn paqelzim_sqrt_f64(x: f64) -> f64
+pub fn paqelzim_sqrt_f64(x: f64) -> f64
     ensures { SquareRoot binary64 x result }
 {
     roots::sqrt_f64(x)
 }
 
-#[unsafe(no_mangle)]
-pub extern "C" fn paqelzim_narrow_f64_to_f32(x: f64) -> f32
+pub fn paqelzim_narrow_f64_to_f32(x: f64) -> f32
     ensures { result ≡ narrow x }
 {
     floats::narrow_f64_to_f32(x)
 }
 
-#[unsafe(no_mangle)]
-pub extern "C" fn paqelzim_hypot_f32(a: f32, b: f32) -> f32
+pub fn paqelzim_hypot_f32(a: f32, b: f32) -> f32
     ensures { result ≡ hypot_of a b }
 {
     floats::hypot_f32(a, b)

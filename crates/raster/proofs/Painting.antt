@@ -10,16 +10,17 @@ use Rattle.geometry.specs.Vector.{Vec3, Triangle}
 use Rattle.cells.specs.Cell.{Cell, numbered}
 use Rattle.cells.specs.Layer.{Layer}
 use Rattle.cells.specs.Steps.{Spans}
-use Rattle.cells.specs.Laws.Numbers.{numbered-append}
+use Rattle.cells.proofs.Laws.Numbers.{numbered-append}
 use Rattle.rules.specs.declared.Facing.{Facing}
 use Rattle.rules.specs.Piece.{Piece}
 use Rattle.rules.specs.Scan.{scans, counts, candidate, screened, centre_at}
 use Rattle.rules.specs.Offers.{piece_brings, pieces_bring}
 use Rattle.rules.specs.Draw.{painted}
 use Rattle.rules.specs.Visits.{visits, visited, piece_cells, stopped_after}
-use Rattle.rules.specs.Laws.Paint.{spans-painted, painted_none, painted_same, painted-append}
-use Rattle.rules.specs.Laws.Visited.{stopped_same}
-use Rattle.rules.specs.Laws.Facing.{Weighs, counted_same}
+use Rattle.rules.proofs.Laws.Paint.{spans-painted, painted_none, painted_same, painted-append}
+use Rattle.rules.proofs.Laws.Visited.{stopped_same}
+use Rattle.rules.specs.Weighs.{Weighs}
+use Rattle.rules.proofs.Laws.Facing.{counted_same}
 use Rattle.boxes.specs.declared.Box.{Box}
 use Rattle.boxes.specs.Box.{Scanned}
 use Rattle.boxes.proofs.Scans.{none_scanned}

@@ -10,7 +10,7 @@ use Rattle.cells.specs.Cell.{Cell}
 use Rattle.cells.specs.Layer.{Layer}
 use Rattle.cells.specs.Steps.{Spans}
 use Rattle.rules.specs.Visits.{down, visited}
-use Rattle.rules.specs.Laws.Visited.{visited-append, spans-visited}
+use Rattle.rules.proofs.Laws.Visited.{visited-append, spans-visited}
 use Rattle.boxes.specs.declared.Box.{Box}
 use Rattle.boxes.specs.Box.{box}
 use Rattle.blocks.specs.Rows.{rows_down}

@@ -4,7 +4,7 @@ use Rattle.std.specs.Prelude.{ℕ, zero, suc, ◌<◌, ◌≡◌, refl, List, []
 use Rattle.std.proofs.Common.{ap, arith, lit<}
 use Rattle.std.specs.Float.{nan}
 use Rattle.offers.specs.Thinning.{kept_from}
-use Rattle.offers.specs.Laws.Joins.{won}
+use Rattle.offers.proofs.Laws.Joins.{won}
 use Rattle.cells.specs.Cell.{Cell, cell, no_hit}
 use Rattle.cells.specs.Layer.{layer, weights_at}
 use Rattle.layers.specs.Calls.{clearing, clear_code, joining, join_code}

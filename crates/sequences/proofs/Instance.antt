@@ -4,9 +4,9 @@ use Rattle.std.specs.Prelude.{ℕ, zero, suc, ◌<◌, ◌≡◌, refl, Bool, tr
 use Rattle.std.proofs.Common.{sym, ◌∙◌, ap, arith, eqb→eq, lit<}
 use Rattle.std.specs.Float.{nan}
 use Rattle.offers.specs.Thinning.{kept_from}
-use Rattle.offers.specs.Laws.Greatest.{first-of-greatest}
-use Rattle.offers.specs.Laws.Joins.{won}
-use Rattle.offers.specs.Laws.Removal.{with_greatest}
+use Rattle.offers.proofs.Laws.Greatest.{first-of-greatest}
+use Rattle.offers.proofs.Laws.Joins.{won}
+use Rattle.offers.proofs.Laws.Removal.{with_greatest}
 use Rattle.cells.specs.Cell.{Cell, no_hit}
 use Rattle.cells.specs.Steps.{Spans}
 use Rattle.layers.specs.Calls.{clearing, clear_code, joining, join_code}

@@ -5,10 +5,10 @@ use Rattle.std.proofs.Common.{ap, ◌∙◌, arith, eqb-true, lit<, take-append-
 use mathlib.Core.List.{List, [], ◌∷◌, ◌++◌, map, append-nil}
 use Rattle.questions.specs.Questions.{Outcome, outcome, empty}
 use Rattle.offers.specs.Thinning.{kept_from, kept_before, renumber}
-use Rattle.offers.specs.Laws.Thinning.{kept_all}
+use Rattle.offers.proofs.Laws.Thinning.{kept_all}
 use Rattle.cells.specs.Layer.{Layer}
 use Rattle.cells.specs.Steps.{Spans}
-use Rattle.cells.specs.Laws.Cells.{same_buffers}
+use Rattle.cells.proofs.Laws.Cells.{same_buffers}
 use Rattle.layers.specs.Calls.{clearing, joining}
 use Rattle.meshes.specs.Mesh.{Face, faces_of, flat}
 use Rattle.meshes.specs.Laws.{length-flat, flat-take, flat-drop}

@@ -2,7 +2,7 @@
 // pixel its row and column, the number of the face it shows, and its depth's bits.
 #![tactic(auto)]
 
-const STDOUT: i32 = 1;
+use std::io;
 
 const WIDTH: usize = 2;
 
@@ -22,27 +22,27 @@ const VTX2XYZ: [f32; 18] = [
 
 const TRI2VTX: [u32; 6] = [0, 1, 2, 3, 4, 5];
 
-fn print_pixel(row: usize, column: usize, number: u32, depth: f32) {
-    io::write_all(STDOUT, b"(pixel (");
-    io::print_decimal(STDOUT, row as u64);
-    io::write_all(STDOUT, b" ");
-    io::print_decimal(STDOUT, column as u64);
-    io::write_all(STDOUT, b") (");
-    io::print_decimal(STDOUT, number as u64);
-    io::write_all(STDOUT, b" ");
-    io::print_hex(STDOUT, words::of_f32(depth) as u64, 8);
-    io::write_all(STDOUT, b"))\n");
+fn print_pixel(
+    rt: &impl Print,
+    row: usize,
+    column: usize,
+    number: u32,
+    depth: f32,
+) -> io::Result<()> {
+    let bits = words::of_f32(depth);
+    println!(rt; "(pixel ({row} {column}) ({number} {bits:08x}))")
 }
 
-fn print_pixels(pix2tri: &[u32; 4], pix2depth: &[f32; 4]) {
+fn print_pixels(rt: &impl Print, pix2tri: &[u32; 4], pix2depth: &[f32; 4]) -> io::Result<()> {
     let mut p: usize = 0;
     while p < 4 {
-        print_pixel(p / WIDTH, p % WIDTH, pix2tri[p], pix2depth[p]);
+        print_pixel(rt, p / WIDTH, p % WIDTH, pix2tri[p], pix2depth[p])?;
         p += 1;
     }
+    Ok(())
 }
 
-fn main() {
+fn main(rt: HostRuntime) -> io::Result<()> {
     let tri2vtx = TRI2VTX;
     let vtx2xyz = VTX2XYZ;
     let matrix = IDENTITY;
@@ -68,5 +68,5 @@ fn main() {
         0,
         ALL_FACES,
     );
-    print_pixels(&pix2tri, &pix2depth);
+    print_pixels(&rt, &pix2tri, &pix2depth)
 }

@@ -5,7 +5,7 @@ use Rattle.std.proofs.Common.{◌∙◌, arith}
 use borrow.Author.Tests.{le-leb}
 use Rattle.questions.specs.Questions.{bounded, empty, most_count}
 use Rattle.offers.specs.Thinning.{kept_from, renumber}
-use Rattle.offers.specs.Laws.Thinning.{kept-length, kept_alike}
+use Rattle.offers.proofs.Laws.Thinning.{kept-length, kept_alike}
 use Rattle.meshes.specs.Mesh.{Face}
 use Rattle.views.specs.Renaming.{Renumbers}
 use Rattle.labels.specs.Labels.{body_of, labelling}

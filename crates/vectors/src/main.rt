@@ -6,6 +6,9 @@
 // wrote it and stdin (examples/vectors.rs, whose comment says of which values).
 #![tactic(auto)]
 
+use std::io;
+use std::io::{BufReader, BufWriter, Read, Write};
+
 const SPACE: u8 = 32;
 
 const LINE_END: u8 = 10;
@@ -25,28 +28,31 @@ fn answer(tool: u32, high: u32, low: u32) -> u64 {
 }
 
 // Runs the next vector, and answers whether there was one.
-fn run_one() -> bool {
-    let words::Word::Bits(tool) = words::read() else {
-        return false;
+fn run_one<R: Read, W: Write>(input: &mut R, output: &mut W) -> io::Result<bool> {
+    let words::Word::Bits(tool) = words::read(input)? else {
+        return Ok(false);
     };
-    let words::Word::Bits(high) = words::read() else {
-        return false;
+    let words::Word::Bits(high) = words::read(input)? else {
+        return Ok(false);
     };
-    let words::Word::Bits(low) = words::read() else {
-        return false;
+    let words::Word::Bits(low) = words::read(input)? else {
+        return Ok(false);
     };
     let bits = answer(tool, high, low);
-    words::write(tool, SPACE);
-    words::write(high, SPACE);
-    words::write(low, SPACE);
-    words::write((bits / 0x1_0000_0000) as u32, SPACE);
-    words::write((bits % 0x1_0000_0000) as u32, LINE_END);
-    true
+    words::write(output, tool, SPACE)?;
+    words::write(output, high, SPACE)?;
+    words::write(output, low, SPACE)?;
+    words::write(output, (bits / 0x1_0000_0000) as u32, SPACE)?;
+    words::write(output, (bits % 0x1_0000_0000) as u32, LINE_END)?;
+    Ok(true)
 }
 
-fn main() {
+fn main(rt: HostRuntime) -> io::Result<()> {
+    let mut input = BufReader::new(rt.alloc(), rt.reader())?;
+    let mut output = BufWriter::new(rt.alloc(), io::writer(&rt))?;
     let mut turns: u64 = 1_000_000;
-    while turns > 0 && run_one() {
+    while turns > 0 && run_one(&mut input, &mut output)? {
         turns -= 1;
     }
+    output.flush()
 }

@@ -8,9 +8,8 @@ ghost use Rattle.std.specs.Float.{binary32, binary64};
 ghost use Rattle.std.specs.Float.Ieee.{of_bits};
 ghost use Rattle.words.specs.Patterns.{pattern_of};
 
-const STDIN: i32 = 0;
-
-const STDOUT: i32 = 1;
+use std::io;
+use std::io::{ErrorKind, Read, Write};
 
 #[derive(Clone, Copy)]
 pub enum Word {
@@ -18,21 +17,21 @@ pub enum Word {
     End,
 }
 
-// The next word of standard input; the end where fewer than nine bytes are left, or one of the first
+// The next word of an input; the end where fewer than nine bytes are left, or one of the first
 // eight is no digit.
-pub fn read() -> Word {
+pub fn read<R: Read>(input: &mut R) -> io::Result<Word> {
     let mut text = [0u8; 9];
-    if io::read_full(STDIN, &mut text) != 9 {
-        return Word::End;
+    match input.read_exact(&mut text) {
+        Ok(()) => Ok(word_in(&text)),
+        Err(e) if e.kind() == ErrorKind::UnexpectedEof => Ok(Word::End),
+        Err(e) => Err(e),
     }
-    word_in(&text)
 }
 
 // Writes a word and the byte after it.
-pub fn write(word: u32, after: u8) {
-    io::print_hex(STDOUT, word as u64, 8);
-    let end = [after];
-    io::write_all(STDOUT, &end);
+pub fn write<W: Write>(output: &mut W, word: u32, after: u8) -> io::Result<()> {
+    write!(output, "{word:08x}")?;
+    output.write_all(&[after])
 }
 
 // The float of a pattern.

@@ -5,7 +5,7 @@ use Rattle.lists.specs.Laws.Tests.{so, said_no, said_yes}
 use Rattle.geometry.specs.Answer.{corner_weights_of}
 use Rattle.questions.specs.Laws.{area}
 use Rattle.cells.specs.Layer.{layer}
-use Rattle.cells.specs.Laws.Pixels.{spans_reaches}
+use Rattle.cells.proofs.Laws.Pixels.{spans_reaches}
 use Rattle.pixels.specs.Laws.{number_below}
 use Rattle.boxes.specs.Answer.{screen_of}
 use Rattle.lanes.specs.Answer.{within}

@@ -1,7 +1,7 @@
 -- `blocks::visit_if_greater`: the visit, or nothing.
 use native.Mathlib.Omega.{arith}
 use Rattle.questions.specs.Laws.{area}
-use Rattle.cells.specs.Laws.Pixels.{spans_reaches}
+use Rattle.cells.proofs.Laws.Pixels.{spans_reaches}
 use Rattle.pixels.specs.Laws.{number_below}
 use Rattle.blocks.specs.Greater.{if_greater}
 use Rattle.blocks.proofs.visit_if_greater.Goals as goal

@@ -5,7 +5,7 @@ use native.Mathlib.Omega.{arith}
 use borrow.Author.Rules.{rules}
 use lib.Ieee.{div, neg, of_bits}
 use Rattle.cells.specs.Layer.{layer}
-use Rattle.cells.specs.Laws.Pixels.{turned_none, turned_more, turned_all}
+use Rattle.cells.proofs.Laws.Pixels.{turned_none, turned_more, turned_all}
 use Rattle.cells.proofs.clear_pixels.Goals as goal
 
 pub loop-i-init : goal.loop-i-init

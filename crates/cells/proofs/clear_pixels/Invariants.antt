@@ -2,7 +2,7 @@
 use Prim.Native.Nat.{◌-◌}
 use Rattle.cells.specs.Cell.{clear}
 use Rattle.cells.specs.Layer.{layer}
-use Rattle.cells.specs.Laws.Pixels.{Turned}
+use Rattle.cells.proofs.Laws.Pixels.{Turned}
 use Rattle.cells.proofs.clear_pixels.Given as goal
 
 abbrev pub invariant-loop-i : goal.invariant-loop-i

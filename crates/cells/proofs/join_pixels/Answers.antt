@@ -2,7 +2,7 @@
 use Prim.Native.Nat.{◌-◌}
 use mathlib.Core.Path.{sym, ◌∙◌}
 use borrow.Author.Rules.{rules}
-use Rattle.cells.specs.Laws.Pixels.{turned_none, turned_more, turned_all, spans_reaches}
+use Rattle.cells.proofs.Laws.Pixels.{turned_none, turned_more, turned_all, spans_reaches}
 use Rattle.cells.proofs.join_pixels.Goals as goal
 
 pub loop-p-init : goal.loop-p-init

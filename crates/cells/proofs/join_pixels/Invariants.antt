@@ -2,7 +2,7 @@
 use Prim.Native.Nat.{◌-◌}
 use Rattle.offers.specs.Offer.{pick}
 use Rattle.cells.specs.Layer.{layer, at}
-use Rattle.cells.specs.Laws.Pixels.{Turned}
+use Rattle.cells.proofs.Laws.Pixels.{Turned}
 use Rattle.cells.proofs.join_pixels.Given as goal
 
 abbrev pub invariant-loop-p : goal.invariant-loop-p

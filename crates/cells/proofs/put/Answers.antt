@@ -3,7 +3,7 @@ use mathlib.Core.Path.{ap, ◌∙◌}
 use Rattle.geometry.specs.Vector.{weights}
 use Rattle.cells.specs.Cell.{cell}
 use Rattle.cells.specs.Layer.{layer}
-use Rattle.cells.specs.Laws.Put.{kept_step, taken_step}
+use Rattle.cells.proofs.Laws.Put.{kept_step, taken_step}
 use Rattle.cells.proofs.put.Goals as goal
 
 pub returns-then-pix2depth-p : goal.returns-then-pix2depth-p

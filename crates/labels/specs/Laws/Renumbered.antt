@@ -7,7 +7,8 @@ use Rattle.std.proofs.lemmas.Bool.{eqb-false}
 use Rattle.std.proofs.Math.ListN.{length-map}
 use Rattle.questions.specs.Questions.{answer, bounded, empty}
 use Rattle.meshes.specs.View.{entry_at}
-use Rattle.views.specs.Renaming.{Renumbers, entry-renamed, not_emptied, names_same}
+use Rattle.views.specs.Renaming.{Renumbers}
+use Rattle.views.proofs.Renaming.{entry-renamed, not_emptied, names_same}
 use Rattle.labels.specs.Labels.{body_of, label, labelled, label_code, labelling}
 use Rattle.labels.specs.Laws.{label-empty, label-face, same_labelled}
 

@@ -1,7 +1,7 @@
 use mathlib.Core.Path.{◌∙◌, sym}
 use native.Mathlib.Omega.{arith}
 use Rattle.questions.specs.Laws.{area}
-use Rattle.layers.specs.Laws.Answers.{clear_accepted}
+use Rattle.layers.proofs.Laws.Answers.{clear_accepted}
 use Rattle.layers.proofs.Calls.{clear_refused, clear_done}
 use Rattle.layers.proofs.clear.Goals as goal
 

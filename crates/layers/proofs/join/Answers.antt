@@ -1,7 +1,7 @@
 use mathlib.Core.Path.{◌∙◌, sym}
 use native.Mathlib.Omega.{arith}
 use Rattle.questions.specs.Laws.{area}
-use Rattle.layers.specs.Laws.Answers.{join_accepted}
+use Rattle.layers.proofs.Laws.Answers.{join_accepted}
 use Rattle.layers.proofs.Calls.{join_refused, join_done}
 use Rattle.layers.proofs.join.Goals as goal
 

@@ -3,8 +3,8 @@ use mathlib.Core.Path.{◌∙◌}
 use native.Mathlib.Omega.{arith}
 use Rattle.cells.specs.Layer.{layer}
 use Rattle.pixels.specs.Laws.{area_below}
-use Rattle.rules.specs.Laws.Load.{piece_most}
-use Rattle.rules.specs.Laws.Visited.{stopped_all}
+use Rattle.rules.proofs.Laws.Load.{piece_most}
+use Rattle.rules.proofs.Laws.Visited.{stopped_all}
 use Rattle.pieces.specs.Answer.{piece_of}
 use Rattle.raster.proofs.draw_piece.Goals as goal
 

@@ -10,7 +10,7 @@ use Rattle.offers.specs.Thinning.{kept_from}
 use Rattle.cells.specs.Layer.{Layer}
 use Rattle.cells.specs.Steps.{Spans}
 use Rattle.layers.specs.Calls.{exact_layer, clearing}
-use Rattle.layers.specs.Laws.Answers.{exact-spans}
+use Rattle.layers.proofs.Laws.Answers.{exact-spans}
 use Rattle.meshes.specs.Mesh.{Face, faces_of, flat}
 use Rattle.rules.specs.declared.Facing.TheVariants.{All}
 use Rattle.rules.specs.Offers.{Scene, scene}

@@ -8,10 +8,10 @@ use Rattle.lists.specs.Laws.Tests.{both}
 use Rattle.questions.specs.Questions.{empty, most_count}
 use Rattle.offers.specs.Offers.{offers_of, Shows, uncovered, covered}
 use Rattle.offers.specs.Thinning.{kept_from}
-use Rattle.offers.specs.Laws.Greatest.{first-of-greatest}
-use Rattle.offers.specs.Laws.Joins.{won}
-use Rattle.offers.specs.Laws.Removal.{nothing-kept, none_kept, not-empty}
-use Rattle.offers.specs.Laws.Thinning.{kept-length}
+use Rattle.offers.proofs.Laws.Greatest.{first-of-greatest}
+use Rattle.offers.proofs.Laws.Joins.{won}
+use Rattle.offers.proofs.Laws.Removal.{nothing-kept, none_kept, not-empty}
+use Rattle.offers.proofs.Laws.Thinning.{kept-length}
 use Rattle.cells.specs.Cell.{Cell, no_hit}
 use Rattle.meshes.specs.Mesh.{Face}
 use Rattle.meshes.specs.View.{entry_at}

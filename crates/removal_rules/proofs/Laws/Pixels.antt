@@ -8,11 +8,11 @@ use Rattle.questions.specs.Questions.{empty, most_count}
 use Rattle.offers.specs.Offer.{renamed}
 use Rattle.offers.specs.Offers.{Greatest}
 use Rattle.offers.specs.Thinning.{kept_from, kept_before, renumber}
-use Rattle.offers.specs.Laws.Greatest.{first-of-greatest}
-use Rattle.offers.specs.Laws.Removal.{with_greatest}
-use Rattle.offers.specs.Laws.Thinning.{renumber-empty, renumber-face, before_most}
+use Rattle.offers.proofs.Laws.Greatest.{first-of-greatest}
+use Rattle.offers.proofs.Laws.Removal.{with_greatest}
+use Rattle.offers.proofs.Laws.Thinning.{renumber-empty, renumber-face, before_most}
 use Rattle.cells.specs.Cell.{Cell, no_hit}
-use Rattle.cells.specs.Laws.Numbers.{with_number}
+use Rattle.cells.proofs.Laws.Numbers.{with_number}
 use Rattle.meshes.specs.Mesh.{Face}
 use Rattle.meshes.specs.View.{entry_at}
 use Rattle.rules.specs.Offers.{Scene, brought, offers, Holds}

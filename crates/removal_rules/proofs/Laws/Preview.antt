@@ -5,7 +5,7 @@ use Rattle.std.proofs.Common.{sym, ◌∙◌, inl, inr, arith, ne_eqb}
 use Rattle.std.proofs.Math.ListN.{get_or-map}
 use Rattle.questions.specs.Questions.{empty, most_count}
 use Rattle.offers.specs.Thinning.{kept_from, renumber}
-use Rattle.offers.specs.Laws.Thinning.{renumber-empty}
+use Rattle.offers.proofs.Laws.Thinning.{renumber-empty}
 use Rattle.cells.specs.Layer.{Layer}
 use Rattle.meshes.specs.Mesh.{Face, faces_of}
 use Rattle.meshes.specs.Laws.{length-faces}

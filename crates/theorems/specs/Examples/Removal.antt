@@ -4,9 +4,9 @@ use Rattle.std.proofs.Common.{ap, sym, ◌∙◌, arith, lit<}
 use mathlib.Core.List.{List, [], ◌∷◌, ◌++◌, sum}
 use Rattle.lists.specs.Lists.{sum_of, count}
 use Rattle.questions.specs.Questions.{Outcome, outcome}
-use Rattle.offers.specs.Laws.Greatest.{first-of-greatest}
-use Rattle.offers.specs.Laws.Joins.{won}
-use Rattle.offers.specs.Laws.Removal.{with_greatest}
+use Rattle.offers.proofs.Laws.Greatest.{first-of-greatest}
+use Rattle.offers.proofs.Laws.Joins.{won}
+use Rattle.offers.proofs.Laws.Removal.{with_greatest}
 use Rattle.offers.specs.Thinning.{kept_from, kept_before, renumber}
 use Rattle.cells.specs.Cell.{Cell, no_hit}
 use Rattle.cells.specs.Layer.{Layer, layer}

@@ -1,0 +1,11 @@
+use borrow.Author.Tests.{eq-eqb, ne_eqb}
+use Rattle.crossings.specs.Crossing.{along}
+use Rattle.crossings.proofs.along.Goals as goal
+
+pub returns-then-axis-eq0 : goal.returns-then-axis-eq0
+unfolding along
+returns-then-axis-eq0 c = rw (eq-eqb _ 0 c.if-axis-eq0.true)
+
+pub returns : goal.returns
+unfolding along
+returns c = rw (ne_eqb _ 0 c.if-axis-eq0.false)

@@ -1,0 +1,2 @@
+-- proved of the definitions in specs/, for the crates above
+pub mod Laws
