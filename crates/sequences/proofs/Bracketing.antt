@@ -13,12 +13,12 @@ use Rattle.cells.specs.Cell as cell
 use Rattle.cells.specs.Layer.{Layer, at}
 use Rattle.cells.specs.Steps.{Spans}
 use Rattle.layers.specs.Calls.{clear_code, clearing, join_code, joining}
-use Rattle.cells.specs.Laws.Pixels.{spans-pixelwise}
+use Rattle.cells.proofs.Laws.Pixels.{spans-pixelwise}
 use Rattle.meshes.specs.Mesh.{Face, faces_of, flat}
 use Rattle.rules.specs.Offers.{Scene, scene, brought}
 use Rattle.rules.specs.Draw.{drawn}
 use Rattle.rules.specs.Calls.{draw_code, facing_of, draws}
-use Rattle.rules.specs.Laws.Paint.{spans-painted}
+use Rattle.rules.proofs.Laws.Paint.{spans-painted}
 use Rattle.sequences.specs.Calls.{Store, layer_of, Call, written, whole, outcome_of, after}
 use Rattle.sequences.specs.Plan as plan
 use Rattle.sequences.specs.Plan.{Stands, nothing, blank, runs, changed_at, run, first_of, clear_of, draw_of, join_of, Keeps, over, clears, joins}

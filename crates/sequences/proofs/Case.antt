@@ -4,7 +4,7 @@ use Rattle.std.proofs.Common.{ap, sym, ◌∙◌}
 use Rattle.questions.specs.Questions.{empty}
 use Rattle.offers.specs.Offers.{Shows}
 use Rattle.offers.specs.Thinning.{renumber}
-use Rattle.offers.specs.Laws.Greatest.{first-of-greatest}
+use Rattle.offers.proofs.Laws.Greatest.{first-of-greatest}
 use Rattle.cells.specs.Cell.{no_hit}
 use Rattle.cells.specs.Layer.{Layer, at}
 use Rattle.cells.specs.Steps.{Spans}

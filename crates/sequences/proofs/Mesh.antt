@@ -6,7 +6,7 @@ use Rattle.lists.specs.Laws.Tests.{both}
 use Rattle.questions.specs.Questions.{sizes, groups, slices, numbers, all_below, most_count}
 use Rattle.questions.specs.Laws.{accepted, grouped, whole}
 use Rattle.offers.specs.Thinning.{kept_from}
-use Rattle.offers.specs.Laws.Thinning.{kept-length}
+use Rattle.offers.proofs.Laws.Thinning.{kept-length}
 use Rattle.cells.specs.Layer.{Layer}
 use Rattle.layers.specs.Calls.{exact_layer}
 use Rattle.meshes.specs.Mesh.{Face, faces_of, face_at, flat}

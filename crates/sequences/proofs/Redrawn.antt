@@ -10,16 +10,16 @@ use Rattle.lists.specs.Laws.Tables.{get_or-tabulate}
 use Rattle.questions.specs.Questions.{empty}
 use Rattle.offers.specs.Offer.{renamed}
 use Rattle.offers.specs.Offers.{offers_of, Shows, uncovered, covered}
-use Rattle.offers.specs.Laws.Order.{test}
-use Rattle.offers.specs.Laws.Greatest.{first-of-greatest}
-use Rattle.offers.specs.Laws.Joins.{won}
-use Rattle.offers.specs.Laws.Removal.{is_there, was_brought}
-use Rattle.offers.specs.Laws.Faces.{brought_number}
+use Rattle.offers.proofs.Laws.Order.{test}
+use Rattle.offers.proofs.Laws.Greatest.{first-of-greatest}
+use Rattle.offers.proofs.Laws.Joins.{won}
+use Rattle.offers.proofs.Laws.Removal.{is_there, was_brought}
+use Rattle.offers.proofs.Laws.Faces.{brought_number}
 use Rattle.cells.specs.Cell.{Hit, Cell, no_hit, numbered}
 use Rattle.cells.specs.Layer.{Layer}
-use Rattle.cells.specs.Laws.Numbers.{numbered_number, with_number}
-use Rattle.cells.specs.Laws.Cells.{same_buffers}
-use Rattle.cells.specs.Laws.Pixels.{pixelwise_same}
+use Rattle.cells.proofs.Laws.Numbers.{numbered_number, with_number}
+use Rattle.cells.proofs.Laws.Cells.{same_buffers}
+use Rattle.cells.proofs.Laws.Pixels.{pixelwise_same}
 use Rattle.meshes.specs.Mesh.{Face}
 use Rattle.meshes.specs.View.{entry_at}
 use Rattle.rules.specs.Offers.{Scene, brings, brought, offers, Holds}

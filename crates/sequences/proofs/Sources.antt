@@ -16,7 +16,7 @@ use Rattle.geometry.specs.Leaf.{corner_weights}
 use Rattle.offers.specs.Offer.{offer, renamed}
 use Rattle.offers.specs.Offers as any
 use Rattle.offers.specs.Offers.{Shows, uncovered, covered}
-use Rattle.offers.specs.Laws.Removal.{is_there, was_brought}
+use Rattle.offers.proofs.Laws.Removal.{is_there, was_brought}
 use Rattle.cells.specs.Cell.{Candidate, hit, Cell, numbered, no_hit, clear}
 use Rattle.cells.specs.Layer.{at}
 use Rattle.meshes.specs.Mesh.{Face, face}

@@ -6,18 +6,19 @@ use Rattle.questions.specs.Questions.{all_below, empty, most_count}
 use Rattle.offers.specs.Offer.{renamed}
 use Rattle.offers.specs.Offers.{Greatest}
 use Rattle.offers.specs.Thinning.{kept_from, kept_before, renumber}
-use Rattle.offers.specs.Laws.Order.{test}
-use Rattle.offers.specs.Laws.Joins.{won}
-use Rattle.offers.specs.Laws.Removal.{kept_offers}
-use Rattle.offers.specs.Laws.Faces.{offers-kept, won_thinned}
-use Rattle.offers.specs.Laws.Thinning.{renumber-empty, renumber-face, kept_apart, kept-length, kept_at}
+use Rattle.offers.proofs.Laws.Order.{test}
+use Rattle.offers.proofs.Laws.Joins.{won}
+use Rattle.offers.proofs.Laws.Removal.{kept_offers}
+use Rattle.offers.proofs.Laws.Faces.{offers-kept, won_thinned}
+use Rattle.offers.proofs.Laws.Thinning.{renumber-empty, renumber-face, kept_apart, kept-length, kept_at}
 use Rattle.cells.specs.Cell.{Hit, hit, Cell, no_hit, numbered}
-use Rattle.cells.specs.Laws.Numbers.{numbered_number, with_number, numbered-renamed}
+use Rattle.cells.proofs.Laws.Numbers.{numbered_number, with_number, numbered-renamed}
 use Rattle.meshes.specs.Mesh.{Face, face, face_at, flat}
 use Rattle.meshes.specs.Laws.{length-flat}
 use Rattle.meshes.specs.View.{entry_at}
 use Rattle.views.specs.Alike.{Alike}
-use Rattle.views.specs.Renaming.{Renumbers, Renames, renamed_alike}
+use Rattle.views.specs.Renaming.{Renumbers, Renames}
+use Rattle.views.proofs.Renaming.{renamed_alike}
 use Rattle.rules.specs.Offers.{Scene, brings, brought, offers, Holds}
 use Rattle.sequences.specs.Whole.{pixel_count, fresh}
 use Rattle.sequences.proofs.Whole.{groups-flat}

@@ -15,16 +15,16 @@ use Rattle.cells.specs.Cell.{Cell, no_hit, numbered}
 use Rattle.cells.specs.Layer.{Layer, at, pixelwise}
 use Rattle.cells.specs.Steps.{Spans}
 use Rattle.layers.specs.Calls.{exact_layer, clear_code, clearing, join_code, joining}
-use Rattle.cells.specs.Laws.Cells.{same_buffers}
-use Rattle.cells.specs.Laws.Pixels.{pixelwise_same, at-pixelwise, spans-pixelwise}
+use Rattle.cells.proofs.Laws.Cells.{same_buffers}
+use Rattle.cells.proofs.Laws.Pixels.{pixelwise_same, at-pixelwise, spans-pixelwise}
 use Rattle.meshes.specs.Mesh.{Face, faces_of, flat}
 use Rattle.meshes.specs.Laws.{length-flat, faces-flat}
 use Rattle.rules.specs.declared.Facing.{Facing}
 use Rattle.rules.specs.Offers.{Scene, scene, brings, brought}
 use Rattle.rules.specs.Draw.{painted, drawn}
 use Rattle.rules.specs.Calls.{draw_code, facing_of, draws}
-use Rattle.offers.specs.Laws.Joins.{won}
-use Rattle.offers.specs.Laws.Faces.{won_runs}
+use Rattle.offers.proofs.Laws.Joins.{won}
+use Rattle.offers.proofs.Laws.Faces.{won_runs}
 use Rattle.sequences.specs.Calls.{Store, layer_of, Lent, held, other, contents, returned, lent_layer, whole, Call, clear, draw, join, written, outcome_of, after, after_all}
 use Rattle.sequences.specs.Plan as plan
 use Rattle.sequences.specs.Plan.{joined, Stands, nothing, blank, runs, changed_at, run, first_of, clear_of, draw_of, join_of, Keeps, over, clears, joins, refused, Accepted}

@@ -82,4 +82,4 @@ module _ {A : Type 0} (R : Arith A) (L : Laws R) where
     shares_true dt du dv =
         sym (shared_out R L (weighted R (u_of R p r) (v_of R p r)) (gradient R (frame_of R p r) dt du dv) m
         ∙ ap (dot3 R (gradient R (frame_of R p r) dt du dv)) moves
-        ∙ told_apart t' u' v' dt du dv r.dir (minus3 R p.p1 p.p0) (minus3 R p.p2 p.p0) h)
+        ∙ told_apart R L t' u' v' dt du dv r.dir (minus3 R p.p1 p.p0) (minus3 R p.p2 p.p0) h)

@@ -1,6 +1,6 @@
 -- At f32 the formulas of this crate are those of the product's definitions: what `interpolate` writes, what `interpolate_bwd` and `bwd` add, and the weights
 -- of drawing.
-use Rattle.std.specs.Prelude.{ℕ, ◌+◌, ◌≡◌, Bool, true, false, not, ◌&&◌, cond, Float}
+use Rattle.std.specs.Prelude.{ℕ, ◌≡◌, Bool, true, false, not, ◌&&◌, cond, Float}
 use Rattle.std.proofs.Math.Path.{refl, ap₂}
 use Rattle.std.proofs.Common.{sym, ◌∙◌, ap}
 use Rattle.std.proofs.Math.Option.{Option, none, some}

@@ -7,7 +7,7 @@ use Rattle.meshes.specs.View.{View}
 use Rattle.meshes.specs.Sums as Sums
 use Rattle.pixel_rays.specs.Rays.{Image, ray_of}
 use Rattle.vertex_values.specs.Pass.{Vertices}
-use Rattle.truth.specs.Image.{Scene, Addition}
+use Rattle.truth.specs.Image.{Scene}
 
 -- what both passes read
 abbrev pub scene_of : Image → Vertices → View → List Float → Scene Float
