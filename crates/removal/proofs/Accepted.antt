@@ -15,10 +15,12 @@ use Rattle.meshes.specs.Sound.{SoundMesh}
 use Rattle.meshes.specs.Laws.{sound_mesh, length-faces}
 use Rattle.rules.specs.declared.Facing.TheVariants.{All}
 use Rattle.rules.specs.Offers.{Scene, scene}
-use Rattle.sequences.specs.Whole.{fresh, fresh-spans}
+use Rattle.sequences.specs.Whole.{fresh}
+use Rattle.sequences.proofs.Whole.{fresh-spans}
 use Rattle.removal_rules.specs.Removal.{kept_by, preview, counted, Previewed, previewed, compared, removal_code, previewing}
-use Rattle.removal_rules.specs.Laws.Drawings.{asked, full-drawn, short_drawn}
-use Rattle.removal_rules.specs.Laws.Pixels.{Matched, keep-empty, drawings_match}
+use Rattle.removal_rules.proofs.Laws.Drawings.{asked, full-drawn, short_drawn}
+use Rattle.removal_rules.specs.Matched.{Matched}
+use Rattle.removal_rules.proofs.Laws.Pixels.{keep-empty, drawings_match}
 
 module _ (tri : List ℕ) (xyz : List Float) (w h : ℕ) (removed : List ℕ) (full short : Layer) where
   pub refused : (m : List Float) {code : ℕ} → code ≡ removal_code tri xyz w h removed full short → (code ≡ 0 → ⊥) → outcome code (previewed (preview 0 0 0) full short) ≡ previewing tri xyz w h m removed full short

@@ -13,8 +13,9 @@ use Rattle.questions.specs.Questions.{empty}
 use Rattle.meshes.specs.View.{entry_at}
 use Rattle.meshes.specs.Laws.{entry_read}
 use Rattle.removal_rules.specs.Removal.{kept_by, goes_empty, names_another, preview, counted}
-use Rattle.removal_rules.specs.Laws.Pixels.{Matched, empties, renames}
-use Rattle.removal_rules.specs.Laws.Counts.{adds_up, same_preview}
+use Rattle.removal_rules.specs.Matched.{Matched}
+use Rattle.removal_rules.proofs.Laws.Pixels.{empties, renames}
+use Rattle.removal_rules.proofs.Laws.Counts.{adds_up, same_preview}
 use Rattle.removal_counts.specs.Steps.{one_if}
 
 -- what one pixel adds

@@ -5,7 +5,7 @@ ghost use Rattle.std.specs.Prelude.{◌≡◌, not, length};
 ghost use Rattle.questions.specs.Questions.{outcome};
 ghost use Rattle.cells.specs.Layer.{Layer};
 ghost use Rattle.removal_rules.specs.Removal.{kept_by, counted, previewed};
-ghost use Rattle.removal_rules.specs.Laws.Pixels.{Matched};
+ghost use Rattle.removal_rules.specs.Matched.{Matched};
 ghost use Rattle.removal_counts.specs.Answer.{answered};
 ghost use Rattle.removal_counts.specs.Steps.{one_if};
 

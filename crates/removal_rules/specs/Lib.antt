@@ -1,4 +1,6 @@
 -- 02, Point 5: a removal seen beforehand.
 pub mod Removal
--- proved of the definitions above
-pub mod Laws
+-- what is said of accepted calls and their pixels
+pub mod Asked
+pub mod Matched
+pub mod Alone

@@ -1,2 +1,2 @@
-// A removal seen beforehand, as definitions and laws, in specs/. There is no code here.
+// A removal seen beforehand: definitions in specs/, and laws of them in proofs/. There is no code here.
 #![tactic(auto)]

@@ -1,4 +1,4 @@
--- 01, "Demand 3's words": sequences of clears, draws and joins on layers, and what is left of them. Nothing here runs.
+-- 01, "Demand 3's words": sequences of clears, draws and joins on layers, and what is said of what is left of them. Nothing here runs.
 pub mod Calls
 pub mod Plan
 pub mod Whole
@@ -9,6 +9,3 @@ pub mod Case
 pub mod Sources
 pub mod Bracketing
 pub mod Example
-pub mod Instance
-pub mod FrontInstance
-pub mod TwoRuns

@@ -1,2 +1,2 @@
-// Nothing here runs: the theorems are in specs/.
+// Nothing here runs: the definitions are in specs/, the theorems in proofs/.
 #![tactic(auto)]

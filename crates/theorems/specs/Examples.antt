@@ -7,7 +7,6 @@ pub mod Load
 pub mod Visits
 pub mod Facing
 pub mod Removal
-pub mod Labels
 use Rattle.std.specs.Prelude.{◌≡◌, refl, [], ◌∷◌, drop}
 use Rattle.std.specs.Float.{nan, binary32}
 use Rattle.std.specs.Float.Ieee.{of_bits}

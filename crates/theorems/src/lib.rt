@@ -1,2 +1,2 @@
-// Nothing here runs: the theorems are in specs/.
+// Nothing here runs: the statements and 01's examples are in specs/, the proofs of the theorems in proofs/.
 #![tactic(auto)]

@@ -1,6 +1,7 @@
 -- The gradients are true: the backward formulas are the exact derivative of the forward ones, in every commutative ring where the divisors can be divided by.
 -- The forward definition is run at dual numbers, a + a'ε with ε² = 0, and what stands at ε is the derivative. The definitions are the product's own, which are
 -- written once over any arithmetic; where the product has one at f32 only, it stands here over any arithmetic, and Ties proves that at f32 it is the product's.
+-- The theorems are in proofs/:
 --
 --   Meeting     `meets`, `weights_agree`      forward and backward speak of the same point and the same weights
 --   Shares      `shares_true`                 the shares of a plane are the derivative of t, u and v
@@ -10,7 +11,7 @@
 --   Projection  `pull_true`, `edge_true`      `jacobian_transform`, and what an edge gives the corners of a face
 --   Weights     `weights-sum`, `weights_place`, `weights_depth_lem`   the corner weights of drawing: they sum to 1, place the pixel and give the depth
 --   Ties        at f32 these formulas are what `interpolate` writes, what `interpolate_bwd` and `bwd` add, and the weights of drawing
---   Rationals   the laws hold of the rational numbers; Examples computes one
+--   Rationals   the laws hold of the rational numbers (in specs/); Examples computes one
 --
 -- What is not said:
 --   nothing on rounding: f32 and an exact ring share the text of the definitions, and no error is bounded;
@@ -26,11 +27,9 @@ pub mod Moving
 -- the passes over any arithmetic
 pub mod Pixel
 pub mod Image
--- the theorems
+-- what the theorems are about; the theorems are in proofs/
 pub mod Meeting
 pub mod Shares
-pub mod Secant
-pub mod Loss
 pub mod Pass
 pub mod Projection
 pub mod Weights
@@ -38,7 +37,6 @@ pub mod Ties
 -- an exact arithmetic with division
 pub mod Integers
 pub mod Rationals
-pub mod Examples
 -- the proofs' tools
 pub mod Buffers
 pub mod Ring

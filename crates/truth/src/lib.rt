@@ -1,2 +1,2 @@
-// The gradients are true: theorems, in specs/. There is no code here.
+// The gradients are true: definitions in specs/, theorems in proofs/. There is no code here.
 #![tactic(auto)]

@@ -13,8 +13,8 @@ use Rattle.layers.specs.Calls.{clearing, joining}
 use Rattle.rules.specs.Offers.{scene}
 use Rattle.rules.specs.Calls.{draw_code, facing_of, draws}
 use Rattle.sequences.specs.Whole.{cleared}
-use Rattle.sequences.specs.Mesh.{answered}
-use Rattle.sequences.specs.TwoRuns.{two_runs}
+use Rattle.sequences.proofs.Mesh.{answered}
+use Rattle.sequences.proofs.TwoRuns.{two_runs}
 
 -- the part of a list from n on, as the code lends it
 rest : (n : ℕ) (xs : List ℕ) → take (length xs - n) (drop n xs) ≡ drop n xs

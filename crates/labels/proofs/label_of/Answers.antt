@@ -1,5 +1,5 @@
 -- `labels::label_of`: the table's entry, and past the table's end empty.
-use Rattle.labels.specs.Laws.{label_read, label_past}
+use Rattle.labels.proofs.Laws.{label_read, label_past}
 use Rattle.labels.proofs.label_of.Goals as goal
 
 pub returns-then-face-tri2body : goal.returns-then-face-tri2body

@@ -2,7 +2,7 @@
 use mathlib.Core.Path.{sym, ◌∙◌}
 use Rattle.questions.specs.Laws.{call_refused, call_done}
 use Rattle.labels.specs.Labels.{labelling}
-use Rattle.labels.specs.Laws.{ready}
+use Rattle.labels.proofs.Laws.{ready}
 use Rattle.labels.proofs.label_picture.Goals as goal
 
 pub returns-then-code-ne0 : goal.returns-then-code-ne0

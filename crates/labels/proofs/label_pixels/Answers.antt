@@ -1,5 +1,4 @@
 -- `labels::label_pixels`: one pixel more is shown at each turn.
-use Prim.Native.Nat.{◌-◌}
 use native.Mathlib.Omega.{arith}
 use Rattle.labels.proofs.Filling.{filling_none, filling_more, filling_all}
 use Rattle.labels.proofs.label_pixels.Goals as goal

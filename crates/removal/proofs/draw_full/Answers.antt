@@ -1,7 +1,7 @@
 -- `removal::draw_full`: cleared, and drawn.
 use native.Mathlib.Omega.{arith}
 use Rattle.questions.specs.Laws.{area}
-use Rattle.sequences.specs.Whole.{cleared-spans, drawn-fresh}
+use Rattle.sequences.proofs.Whole.{cleared-spans, drawn-fresh}
 use Rattle.removal.proofs.draw_full.Goals as goal
 
 pub overflow_mul-w : goal.overflow_mul-w

@@ -15,8 +15,8 @@ use Rattle.meshes.specs.Mesh.{faces_of, flat}
 use Rattle.rules.specs.declared.Facing.TheVariants.{All}
 use Rattle.rules.specs.Offers.{Scene, scene, brought, offers, Holds}
 use Rattle.removal_rules.specs.Removal.{kept_by, shortened, drawn_anew, goes_empty, keeps_face, names_another, preview, counted, Previewed, previewed, compared, removal_code, previewing}
-use Rattle.removal_rules.specs.Laws.Emptied.{Alone}
-use Rattle.removal_rules.specs.Laws.Preview.{idle_removed, emptied_alone}
+use Rattle.removal_rules.specs.Alone.{Alone}
+use Rattle.removal_rules.proofs.Laws.Preview.{idle_removed, emptied_alone}
 use Rattle.sequences.specs.Thinned.{Idle}
 use Rattle.sequences.specs.Example as example
 use Rattle.sequences.specs.Example.{one, three, quarter, half, matrix, corners, four, twelve, blank, in_t, faced}

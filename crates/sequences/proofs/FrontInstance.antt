@@ -16,7 +16,7 @@ use Rattle.sequences.specs.Calls.{Store, after}
 use Rattle.sequences.specs.Plan as plan
 use Rattle.sequences.specs.Plan.{joined, nothing, runs, changed_at, over, clears, joins, clear_of, draw_of, join_of}
 use Rattle.sequences.specs.Case.{Cut, Case, full}
-use Rattle.sequences.specs.Instance.{keep, not-held}
+use Rattle.sequences.proofs.Instance.{keep, not-held}
 use Rattle.sequences.specs.Example as example
 use Rattle.sequences.specs.Example.{matrix, corners, quarter, half, four, twelve, in_t, in_exchanged_t, faced}
 

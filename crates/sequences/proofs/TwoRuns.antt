@@ -18,8 +18,9 @@ use Rattle.sequences.specs.Calls.{Store, after, after_all}
 use Rattle.sequences.specs.Plan as plan
 use Rattle.sequences.specs.Plan.{joined, nothing, runs, changed_at, over, clears, joins, clear_of, draw_of, join_of, Accepted}
 use Rattle.sequences.specs.Whole.{pixel_count, cleared}
-use Rattle.sequences.specs.Mesh.{answered, threes_of}
-use Rattle.sequences.specs.Case.{Case, full, final, pictures}
+use Rattle.sequences.proofs.Mesh.{answered, threes_of}
+use Rattle.sequences.specs.Case.{Case, full, final}
+use Rattle.sequences.proofs.Case.{pictures}
 
 -- ---- lists
 

@@ -5,11 +5,13 @@ use Rattle.questions.specs.Questions.{empty, outcome, sizes, bounded, exact, nam
 use Rattle.lists.specs.Lists.{every}
 use Rattle.cells.specs.Layer.{Layer, layer}
 use Rattle.labels.specs.Labels.{body_of, label, labelled, label_code, labelling}
-use Rattle.labels.specs.Screen.{empty_at, body_at, SameBodies, screen}
-use Rattle.sequences.specs.Instance.{left_first, four-faces}
+use Rattle.labels.specs.Screen.{empty_at, body_at, SameBodies}
+use Rattle.labels.proofs.Screen.{screen}
+use Rattle.sequences.proofs.Instance.{left_first, four-faces}
 use Rattle.sequences.specs.Example as example
 use Rattle.sequences.specs.Example.{quarter, half, four, twelve, in_t}
-use Rattle.theorems.specs.Demand3.{Labels, demand3}
+use Rattle.theorems.specs.Demand3.{Labels}
+use Rattle.theorems.proofs.Demand3.{demand3}
 
 abbrev one_layer : Layer
 one_layer = layer (0 ∷ empty ∷ 2 ∷ 1 ∷ []) (four quarter) in_t

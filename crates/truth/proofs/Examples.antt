@@ -15,12 +15,15 @@ use Rattle.truth.specs.Rationals.{ℚ, over, alike, rationals, rational_laws, di
 use Rattle.truth.specs.Pixel.{value_at, loss, incoming, backward, gradients_at, inner_values}
 use Rattle.truth.specs.Dual.{duals, still}
 use Rattle.truth.specs.Moving.{moving, moving_values, still_ray, inner}
-use Rattle.truth.specs.Loss.{loss_true}
+use Rattle.truth.proofs.Loss.{loss_true}
 use Rattle.truth.specs.Image.{Scene, summed, image_xyz, image_val, image_loss}
 use Rattle.truth.specs.Buffers.{against}
-use Rattle.truth.specs.Pass.{moving_scene, Good, Ready, pass_true}
-use Rattle.truth.specs.Meeting.{D, n_dot_n, weights_agree}
-use Rattle.truth.specs.Weights.{area_sum, weights_in, weights_depth_lem}
+use Rattle.truth.specs.Pass.{moving_scene, Good, Ready}
+use Rattle.truth.proofs.Pass.{pass_true}
+use Rattle.truth.specs.Meeting.{D, n_dot_n}
+use Rattle.truth.proofs.Meeting.{weights_agree}
+use Rattle.truth.specs.Weights.{area_sum, weights_in}
+use Rattle.truth.proofs.Weights.{weights_depth_lem}
 
 -- n and -(n + 1)
 abbrev whole : ℕ → ℚ

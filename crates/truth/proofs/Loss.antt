@@ -12,10 +12,12 @@ use Rattle.rays_bwd.specs.Backward.{frame_of, framed, meets_u, meets_v, weighted
 use Rattle.pixel_gradients.specs.Gather.{gathered}
 use Rattle.truth.specs.Laws.{Laws, Invertible}
 use Rattle.truth.specs.Solve.{Expr, var, :0, ◌:+◌, ◌:-◌, ◌:*◌, exprs, from, eval, Equal, by_ring}
-use Rattle.truth.specs.Dual.{Dual, dual, duals, still, dual_laws, dual_invertible}
+use Rattle.truth.specs.Dual.{Dual, dual, duals, still}
+use Rattle.truth.proofs.Dual.{dual_laws, dual_invertible}
 use Rattle.truth.specs.Moving.{moving, moving_values, still_ray, inner}
-use Rattle.truth.specs.Meeting.{D, n_dot_n, t_of, u_of, v_of, weights_agree}
-use Rattle.truth.specs.Shares.{shares_true}
+use Rattle.truth.specs.Meeting.{D, n_dot_n, t_of, u_of, v_of}
+use Rattle.truth.proofs.Meeting.{weights_agree}
+use Rattle.truth.proofs.Shares.{shares_true}
 use Rattle.truth.specs.Pixel.{value_at, loss, incoming, of_u, of_v, backward, gradients_at, to_value, inner_values}
 
 abbrev real : {A : Type 0} → Weights (Dual A) → Weights A

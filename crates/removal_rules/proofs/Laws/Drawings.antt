@@ -1,5 +1,5 @@
 -- The two drawings of an accepted call: each is its list drawn from number 0 into a cleared layer.
-use Rattle.std.specs.Prelude.{ℕ, ◌*◌, ◌/◌, ◌≡◌, Bool, ◌&&◌, length, Float}
+use Rattle.std.specs.Prelude.{ℕ, ◌/◌, ◌≡◌, Bool, ◌&&◌, length, Float}
 use Rattle.std.proofs.Math.Path.{refl, ap}
 use Rattle.std.proofs.Common.{sym, ◌∙◌, lit<}
 use mathlib.Core.List.{List, [], ◌∷◌, append-nil}
@@ -16,17 +16,13 @@ use Rattle.rules.specs.declared.Facing.TheVariants.{All}
 use Rattle.rules.specs.Offers.{Scene, scene}
 use Rattle.rules.specs.Calls.{facing_of, draws}
 use Rattle.sequences.specs.Plan.{joined}
-use Rattle.sequences.specs.Whole.{pixel_count, fresh, clear_left, drawn_left}
-use Rattle.sequences.specs.Mesh.{Answered, threes_of, fit}
-use Rattle.sequences.specs.TwoRuns.{every, kept-every}
+use Rattle.sequences.specs.Whole.{pixel_count, fresh}
+use Rattle.sequences.proofs.Whole.{clear_left, drawn_left}
+use Rattle.sequences.specs.Mesh.{Answered}
+use Rattle.sequences.proofs.Mesh.{threes_of, fit}
+use Rattle.sequences.proofs.TwoRuns.{every, kept-every}
 use Rattle.removal_rules.specs.Removal.{kept_by, shortened, drawn_anew, removal_code}
-
--- what an accepted call answers yes
-pub record Asked (tri : List ℕ) (xyz : List Float) (w h : ℕ) (removed : List ℕ) (full short : Layer) : Type 0 where
-  pub mesh : (m : List Float) → Answered (scene m xyz w h All) tri
-  pub marks : length removed ≡ length tri / 3
-  pub full-spans : Spans full (w * h)
-  pub short_spans : Spans short (w * h)
+use Rattle.removal_rules.specs.Asked.{Asked}
 
 pub asked : (tri : List ℕ) (xyz : List Float) (w h : ℕ) (removed : List ℕ) (full short : Layer) → removal_code tri xyz w h removed full short ≡ 0 → Asked tri xyz w h removed full short
 unfolding removal_code

@@ -13,15 +13,20 @@ use Rattle.meshes.specs.View.{entry_at}
 use Rattle.rules.specs.declared.Facing.TheVariants.{All}
 use Rattle.rules.specs.Offers.{Scene, scene, offers, Holds}
 use Rattle.sequences.specs.Whole.{fresh}
-use Rattle.sequences.specs.Mesh.{few_of}
-use Rattle.sequences.specs.Redrawn.{offer-face, holds_face, drawn_map, entry_holds}
-use Rattle.sequences.specs.Thinned.{Idle, thinned}
+use Rattle.sequences.proofs.Mesh.{few_of}
+use Rattle.sequences.specs.Redrawn.{drawn_map}
+use Rattle.sequences.proofs.Redrawn.{offer-face, holds_face, entry_holds}
+use Rattle.sequences.specs.Thinned.{Idle}
+use Rattle.sequences.proofs.Thinned.{thinned}
 use Rattle.removal_rules.specs.Removal.{kept_by, shortened, drawn_anew, goes_empty, preview, counted, Previewed, compared, removal_code, previewing}
-use Rattle.removal_rules.specs.Laws.Drawings.{Asked, asked, full-drawn, short_drawn}
-use Rattle.removal_rules.specs.Laws.Pixels.{Matched, stays_kept, keep-empty, drawings_match}
-use Rattle.removal_rules.specs.Laws.Counts.{all_keep}
-use Rattle.removal_rules.specs.Laws.Counts as counts
-use Rattle.removal_rules.specs.Laws.Emptied.{Alone, gone-alone, alone-gone}
+use Rattle.removal_rules.specs.Asked.{Asked}
+use Rattle.removal_rules.proofs.Laws.Drawings.{asked, full-drawn, short_drawn}
+use Rattle.removal_rules.specs.Matched.{Matched}
+use Rattle.removal_rules.proofs.Laws.Pixels.{stays_kept, keep-empty, drawings_match}
+use Rattle.removal_rules.proofs.Laws.Counts.{all_keep}
+use Rattle.removal_rules.proofs.Laws.Counts as counts
+use Rattle.removal_rules.specs.Alone.{Alone}
+use Rattle.removal_rules.proofs.Laws.Emptied.{gone-alone, alone-gone}
 
 module _ (tri : List ℕ) (xyz : List Float) (w h : ℕ) (m : List Float) (removed : List ℕ) (full short : Layer) (accepted : removal_code tri xyz w h removed full short ≡ 0) where
   -- what the drawings are made from

@@ -1,5 +1,5 @@
 -- The picture of body numbers of a thinned list, with its table thinned alike.
-use Rattle.std.specs.Prelude.{ℕ, ◌≤◌, ◌≡◌, Bool, true, List, map, length}
+use Rattle.std.specs.Prelude.{ℕ, ◌≤◌, ◌≡◌, Bool, List, map, length}
 use Rattle.std.proofs.Math.Path.{sym}
 use Rattle.std.proofs.Common.{◌∙◌, arith}
 use borrow.Author.Tests.{le-leb}
@@ -9,10 +9,11 @@ use Rattle.offers.proofs.Laws.Thinning.{kept-length, kept_alike}
 use Rattle.meshes.specs.Mesh.{Face}
 use Rattle.views.specs.Renaming.{Renumbers}
 use Rattle.labels.specs.Labels.{body_of, labelling}
-use Rattle.labels.specs.Laws.Renumbered.{relabelled}
+use Rattle.labels.proofs.Laws.Renumbered.{relabelled}
 use Rattle.rules.specs.Offers.{Scene}
 use Rattle.sequences.specs.Redrawn.{drawn_map}
-use Rattle.sequences.specs.Thinned.{Idle, renumbers, beside_kept}
+use Rattle.sequences.specs.Thinned.{Idle}
+use Rattle.sequences.proofs.Thinned.{renumbers, beside_kept}
 
 module _ (sc : Scene) (fs : List Face) (keep : ℕ → Bool) (few : length fs ≤ most_count) (idle : Idle sc fs keep) (t : List ℕ) (one_each : length t ≡ length fs) where
   abbrev kept : List ℕ

@@ -1,5 +1,5 @@
 -- A map renumbered together with its table: the screen shows what it showed. A thinned list is one instance, a shuffled one another.
-use Rattle.std.specs.Prelude.{ℕ, ◌<◌, ◌≡◌, refl, Bool, true, false, eqb, length}
+use Rattle.std.specs.Prelude.{ℕ, ◌≡◌, refl, Bool, true, false, eqb, length}
 use Rattle.std.proofs.Common.{sym, ap, ◌∙◌, eqb-true}
 use Rattle.std.proofs.Math.Path.{ap₂}
 use mathlib.Core.List.{List, map}
@@ -9,8 +9,8 @@ use Rattle.questions.specs.Questions.{answer, bounded, empty}
 use Rattle.meshes.specs.View.{entry_at}
 use Rattle.views.specs.Renaming.{Renumbers}
 use Rattle.views.proofs.Renaming.{entry-renamed, not_emptied, names_same}
-use Rattle.labels.specs.Labels.{body_of, label, labelled, label_code, labelling}
-use Rattle.labels.specs.Laws.{label-empty, label-face, same_labelled}
+use Rattle.labels.specs.Labels.{body_of, label, label_code, labelling}
+use Rattle.labels.proofs.Laws.{label-empty, label-face, same_labelled}
 
 module _ {r : ℕ → ℕ} {names : List ℕ} (t t' : List ℕ) (s : Renumbers r names (length t) (length t')) where
   -- the new table has the old one's body for each face that an entry names

@@ -7,7 +7,8 @@ use Rattle.lists.specs.Laws.Sums.{count_none, count-more, count_alike}
 use Rattle.questions.specs.Questions.{empty}
 use Rattle.meshes.specs.View.{entry_at}
 use Rattle.removal_rules.specs.Removal.{goes_empty, keeps_face, names_another, Preview, preview, counted}
-use Rattle.removal_rules.specs.Laws.Pixels.{Matched, empties, keeps, renames}
+use Rattle.removal_rules.specs.Matched.{Matched}
+use Rattle.removal_rules.proofs.Laws.Pixels.{empties, keeps, renames}
 
 -- three tests of which each number passes exactly one
 count-three : (f g h : ℕ → Bool) (a n : ℕ) → ((i : ℕ) → i < n → cond (f (a + i)) 1 0 + cond (g (a + i)) 1 0 + cond (h (a + i)) 1 0 ≡ 1)

@@ -1,15 +1,16 @@
 -- Proved of the definitions.
 pub mod Renumbered
-use Rattle.std.specs.Prelude.{ℕ, ◌*◌, ◌≤◌, ◌<◌, ◌≡◌, refl, Bool, true, false, cond, List, map, eqb, length, get_or}
+use Rattle.std.specs.Prelude.{ℕ, ◌≤◌, ◌<◌, ◌≡◌, refl, Bool, true, false, cond, List, map, eqb, length, get_or}
 use Rattle.std.proofs.Common.{sym, ap, ◌∙◌, arith, leb-true, eq-eqb, ne_eqb, ext_get_or}
 use Rattle.std.proofs.lemmas.List.{length-map}
 use Rattle.std.proofs.Math.ListN.{get_or-map, get_or-eq_default}
 use Rattle.lists.specs.Laws.Tests.{both}
-use Rattle.questions.specs.Questions.{sizes, bounded, exact, names_faces, empty, most_count}
-use Rattle.questions.specs.Laws.{Sized, sized, exactly, accepted}
+use Rattle.questions.specs.Questions.{bounded, empty, most_count}
+use Rattle.questions.specs.Laws.{sized, exactly, accepted}
 use Rattle.meshes.specs.View.{entry_at}
 use Rattle.meshes.specs.Laws.{entry_read}
 use Rattle.labels.specs.Labels.{body_of, label, labelled, label_code}
+use Rattle.labels.specs.Ready.{Ready}
 
 -- what is shown of an entry
 pub label-empty : (tri2body : List ℕ) (entry : ℕ) → entry ≡ empty → label tri2body entry ≡ empty
@@ -49,14 +50,6 @@ same_labelled t t' names names' e k =
     ext_get_or empty (labelled t names) (labelled t' names')
     (length-labelled t names ∙ e ∙ sym (length-labelled t' names'))
     (λ p h. label_at t names p ∙ k p (rw (length-labelled t names) at h) ∙ sym (label_at t' names' p))
-
--- what an accepted call knows
-pub record Ready (pix2tri tri2body : List ℕ) (w h : ℕ) (pix2body : List ℕ) : Type 0 where
-  pub size : Sized 1 w h
-  pub few : length tri2body ≤ most_count
-  pub whole : length pix2tri ≡ w * h
-  pub lent : length pix2body ≡ w * h
-  pub named : names_faces (length tri2body) pix2tri ≡ true
 
 pub ready : (pix2tri tri2body : List ℕ) (w h : ℕ) (pix2body : List ℕ) → label_code pix2tri tri2body w h pix2body ≡ 0 → Ready pix2tri tri2body w h pix2body
 unfolding label_code bounded

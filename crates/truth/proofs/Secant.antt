@@ -11,8 +11,10 @@ use Rattle.rays_bwd.specs.Backward.{framed, frame_of, weighted, gradient, shares
 use Rattle.truth.specs.Laws.{Laws, Invertible}
 use Rattle.truth.specs.Solve.{same3, var, :0, :1, ◌:+◌, ◌:-◌, ◌:*◌, exprs, from, eval, Equal, by_premise}
 use Rattle.truth.specs.Moving.{inner}
-use Rattle.truth.specs.Meeting.{D, t_of, u_of, v_of, meets}
-use Rattle.truth.specs.Shares.{within, shared_out, told_apart}
+use Rattle.truth.specs.Meeting.{D, t_of, u_of, v_of}
+use Rattle.truth.proofs.Meeting.{meets}
+use Rattle.truth.specs.Shares.{within}
+use Rattle.truth.proofs.Sharing.{shared_out, told_apart}
 
 module _ {A : Type 0} (R : Arith A) (L : Laws R) where
   open R use {add as ◌⊕◌, sub as ◌⊖◌, mul as ◌⊗◌}

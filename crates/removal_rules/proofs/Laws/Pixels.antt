@@ -17,19 +17,13 @@ use Rattle.meshes.specs.Mesh.{Face}
 use Rattle.meshes.specs.View.{entry_at}
 use Rattle.rules.specs.Offers.{Scene, brought, offers, Holds}
 use Rattle.sequences.specs.Whole.{pixel_count}
-use Rattle.sequences.specs.Redrawn.{holds_face, drawn_map, entry_is, entry_holds}
-use Rattle.sequences.specs.Thinned.{pixel-kept}
+use Rattle.sequences.specs.Redrawn.{drawn_map}
+use Rattle.sequences.proofs.Redrawn.{holds_face, entry_is, entry_holds}
+use Rattle.sequences.proofs.Thinned.{pixel-kept}
 use Rattle.removal_rules.specs.Removal.{kept_by, goes_empty, keeps_face, names_another}
+use Rattle.removal_rules.specs.Matched.{Matched}
 
 -- ---- two maps of which the second shows the kept faces of the first
-
-pub record Matched (keep : ℕ → Bool) (full short : List ℕ) (n : ℕ) : Type 0 where
-  -- empty names no removed face
-  pub empty-kept : keep empty ≡ true
-  -- an entry is empty, or a face's number
-  pub named : (p : ℕ) → p < n → (entry_at full p ≡ empty) ⊎ (entry_at full p < most_count)
-  -- one that is kept stands there under its new number
-  pub stays : (p : ℕ) → p < n → keep (entry_at full p) ≡ true → entry_at short p ≡ renumber empty keep (entry_at full p)
 
 -- an entry whose new number stands there is kept unless its face is removed
 by_number : (keep : ℕ → Bool) (old : ℕ) → keeps_face keep old (renumber empty keep old) ≡ eqb old empty || keep old

@@ -1,8 +1,8 @@
 -- A pixel goes empty exactly where it is covered, and by removed faces alone.
-use Rattle.std.specs.Prelude.{ℕ, ◌<◌, ◌≤◌, ◌≡◌, refl, Bool, true, false, not, T, eqb, length}
+use Rattle.std.specs.Prelude.{ℕ, ◌<◌, ◌≤◌, ◌≡◌, refl, Bool, true, false, not, eqb, length}
 use Rattle.std.proofs.Math.Path.{ap, sym}
 use Rattle.std.proofs.Common.{◌∙◌, true≢false, arith}
-use mathlib.Core.List.{List, [], ◌∷◌, map, Memᴰ}
+use mathlib.Core.List.{List, [], ◌∷◌, map}
 use borrow.Author.Tests.{eq-eqb, ne_eqb, eqb-true, eqb-false, not-true}
 use Rattle.lists.specs.Laws.Tests.{both}
 use Rattle.questions.specs.Questions.{empty, most_count}
@@ -17,9 +17,11 @@ use Rattle.meshes.specs.Mesh.{Face}
 use Rattle.meshes.specs.View.{entry_at}
 use Rattle.rules.specs.Offers.{Scene, brought, offers, Holds}
 use Rattle.sequences.specs.Whole.{pixel_count}
-use Rattle.sequences.specs.Redrawn.{holds_face, drawn_map, entry_is}
-use Rattle.sequences.specs.Thinned.{offers_left}
+use Rattle.sequences.specs.Redrawn.{drawn_map}
+use Rattle.sequences.proofs.Redrawn.{holds_face, entry_is}
+use Rattle.sequences.proofs.Thinned.{offers_left}
 use Rattle.removal_rules.specs.Removal.{goes_empty}
+use Rattle.removal_rules.specs.Alone.{Alone}
 
 -- ---- an entry is empty exactly where the pixel has no offer
 
@@ -45,11 +47,6 @@ module _ (sc : Scene) (fs : List Face) (few : length fs ≤ most_count) (p : ℕ
 map-nothing : {A B : Type 0} (f : A → B) (xs : List A) → map f xs ≡ [] → xs ≡ []
 map-nothing f [] e = refl
 map-nothing f (x ∷ xs) e = let z : ◌≡◌ {A = Bool} true false = cc in absurd (true≢false z)
-
--- "covered by removed faces alone": there is an offer, and each is of a face that is not kept
-pub record Alone (sc : Scene) (fs : List Face) (keep : ℕ → Bool) (p : ℕ) : Type 0 where
-  pub is_covered : offers sc fs 0 p ≡ [] → ⊥
-  pub removed : (c : Cell) → Memᴰ c (offers sc fs 0 p) → T (not (keep c.payload.number))
 
 module _ (sc : Scene) (fs : List Face) (keep : ℕ → Bool) (few : length fs ≤ most_count) (p : ℕ) (h : p < pixel_count sc) where
   abbrev kept : List Face

@@ -1,0 +1,2 @@
+-- proved of the definitions, for the crates above
+pub mod Laws

@@ -1,0 +1,2 @@
+-- Examples beside the marked ones, which use the theorems.
+pub mod Labels

@@ -1,0 +1,15 @@
+-- dual numbers
+pub mod Dual
+-- the theorems
+pub mod Made
+pub mod Meeting
+pub mod Sharing
+pub mod Shares
+pub mod Secant
+pub mod Loss
+pub mod Pass
+pub mod Pulled
+pub mod Projection
+pub mod Weights
+pub mod Ties
+pub mod Examples
