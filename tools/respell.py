@@ -45,6 +45,18 @@ BY_HAND = {
     "with-sum": "with_sum_lem",
     "get_d_tabulate": "get_or-tabulate",
     "get_d_any": "get_or_any",
+    # fields, which have no dashes
+    "h-least": "h_least",
+    "w-least": "w_least",
+    "gradients-kept": "gradients_kept",
+    "final-from": "final_from",
+    "final-shows": "final_shows",
+    "final-spans": "final_spans",
+    "full-shows": "full_shows",
+    "full-spans": "full_spans",
+    "one-face": "one_face",
+    "second-entry": "second_entry",
+    "empty-kept": "empty_kept",
 }
 
 

@@ -21,7 +21,7 @@ module _ (tri : List ℕ) {map : List ℕ} (m xyz : List Float) {w h : ℕ} {e :
   type = type_of (edge_view (view_of tri map) m xyz w) e
 
   entries : equal_entries (edge_view (view_of tri map) m xyz w) e ≡ eqb r.first r.second
-  entries = ap₂ eqb (sym k.first_entry) (sym k.second-entry)
+  entries = ap₂ eqb (sym k.first_entry) (sym k.second_entry)
 
   pub equal_typed : r.first ≡ r.second → type ≡ 0
   unfolding type_of
@@ -35,4 +35,4 @@ module _ (tri : List ℕ) {map : List ℕ} (m xyz : List Float) {w h : ℕ} {e :
       → (contains all_inside m xyz (named tri r.second) q0 || contains all_inside m xyz (named tri r.first) q1) ≡ b → type ≡ cond b 1 0
   unfolding type_of first_in_second second_in_first
   unequal_typed ne p q t =
-      rw (entries ∙ ne_eqb _ _ ne) (ap (λ (b : Bool). cond b 1 0) (ap₂ ◌||◌ (asked k.second-entry p) (asked k.first_entry q) ∙ t))
+      rw (entries ∙ ne_eqb _ _ ne) (ap (λ (b : Bool). cond b 1 0) (ap₂ ◌||◌ (asked k.second_entry p) (asked k.first_entry q) ∙ t))

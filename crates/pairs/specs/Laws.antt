@@ -44,7 +44,7 @@ module _ {tri map : List ℕ} {xyz : List Float} {w h : ℕ} (s : SoundMap tri x
     first-named = rw k.first_entry (pixel-named _)
 
     pub second-named : names_face (length tri / 3) r.second ≡ true
-    second-named = rw k.second-entry (pixel-named _)
+    second-named = rw k.second_entry (pixel-named _)
 
   -- where every vertex has a projection, question 8 is answered yes at every pair
   module _ (m : List Float) (yes : all_project m xyz ≡ true) where
@@ -62,4 +62,4 @@ pub both-project : (tri : List ℕ) (m xyz : List Float) {map : List ℕ} {w h :
     → answered (edge_view (view_of tri map) m xyz w) e ≡ true → (projects m xyz (named tri r.first) ≡ true) × (projects m xyz (named tri r.second) ≡ true)
 unfolding answered
 both-project tri m xyz {map} {w} {h} {e} {r} k ne a =
-    both (projects m xyz (named tri r.first)) _ (rw (← k.first_entry, ← k.second-entry, ne_eqb _ _ ne) at a)
+    both (projects m xyz (named tri r.first)) _ (rw (← k.first_entry, ← k.second_entry, ne_eqb _ _ ne) at a)

@@ -25,4 +25,4 @@ pub record PairAt (map : List ℕ) (w h : ℕ) (e : Edge) (r : Pair) : Type 0 wh
   pub q_number : r.q ≡ second_of w e
   pub q_below : r.q < w * h
   pub first_entry : r.first ≡ entry_at map (first_of w e)
-  pub second-entry : r.second ≡ entry_at map (second_of w e)
+  pub second_entry : r.second ≡ entry_at map (second_of w e)

@@ -37,9 +37,9 @@ accepted n false qs e = let h : suc n ≡ 0 = e in absurd (omega arith)
 
 -- what question 1 answered yes says
 pub record Sized (least w h : ℕ) : Type 0 where
-  pub w-least : least ≤ w
+  pub w_least : least ≤ w
   pub w_most : w ≤ most_size
-  pub h-least : least ≤ h
+  pub h_least : least ≤ h
   pub h_most : h ≤ most_size
 
 pub sized : (least w h : ℕ) → sizes least w h ≡ true → Sized least w h
@@ -49,9 +49,9 @@ sized least w h e =
     let b = both (leb w most_size) _ a.1 in
     let c = both (leb least h) _ b.1 in
     record {
-      w-least = leb-true _ _ a.0;
+      w_least = leb-true _ _ a.0;
       w_most = leb-true _ _ b.0;
-      h-least = leb-true _ _ c.0;
+      h_least = leb-true _ _ c.0;
       h_most = leb-true _ _ c.1;
     }
 

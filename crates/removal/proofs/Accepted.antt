@@ -38,7 +38,7 @@ module _ (tri : List ℕ) (xyz : List Float) (w h : ℕ) (removed : List ℕ) (f
     size = sized 1 w h ((asked tri xyz w h removed full short accepted).mesh []).sized
 
     pub full_ready : Sized 1 w h × (Spans full (w * h) × (SoundMesh tri xyz × (length tri / 3 ≤ most_count)))
-    full_ready = (size, ((asked tri xyz w h removed full short accepted).full-spans, mesh))
+    full_ready = (size, ((asked tri xyz w h removed full short accepted).full_spans, mesh))
 
     pub short_ready : Sized 1 w h × (Spans short (w * h) × (SoundMesh tri xyz × ((length tri / 3 ≤ most_count) × (length removed ≡ length tri / 3))))
     short_ready = let a = asked tri xyz w h removed full short accepted in (size, (a.short_spans, (mesh.0, (mesh.1, a.marks))))

@@ -11,5 +11,5 @@ use Rattle.sequences.specs.Mesh.{Answered}
 pub record Asked (tri : List ℕ) (xyz : List Float) (w h : ℕ) (removed : List ℕ) (full short : Layer) : Type 0 where
   pub mesh : (m : List Float) → Answered (scene m xyz w h All) tri
   pub marks : length removed ≡ length tri / 3
-  pub full-spans : Spans full (w * h)
+  pub full_spans : Spans full (w * h)
   pub short_spans : Spans short (w * h)

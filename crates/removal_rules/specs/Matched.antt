@@ -7,7 +7,7 @@ use Rattle.meshes.specs.View.{entry_at}
 
 pub record Matched (keep : ℕ → Bool) (full short : List ℕ) (n : ℕ) : Type 0 where
   -- empty names no removed face
-  pub empty-kept : keep empty ≡ true
+  pub empty_kept : keep empty ≡ true
   -- an entry is empty, or a face's number
   pub named : (p : ℕ) → p < n → (entry_at full p ≡ empty) ⊎ (entry_at full p < most_count)
   -- one that is kept stands there under its new number

@@ -54,11 +54,11 @@ module _ (c : Case) where
       let m = c.mesh in
       record {
         answered = final_is.0;
-        full-spans = spans-of m (faces m) (full m) (full_is m);
-        final-spans = spans-of m (kept_faces m) (final c) final_is.1;
+        full_spans = spans-of m (faces m) (full m) (full_is m);
+        final_spans = spans-of m (kept_faces m) (final c) final_is.1;
         depths = ap (λ (l : Layer). l.pix2depth) final-renumbered;
         weights = ap (λ (l : Layer). l.pix2weights) final-renumbered;
         maps = ap (λ (l : Layer). l.pix2tri) final-renumbered;
-        full-shows = shows-of m (faces m) (full m) (full_is m);
-        final-shows = shows-of m (kept_faces m) (final c) final_is.1;
+        full_shows = shows-of m (faces m) (full m) (full_is m);
+        final_shows = shows-of m (kept_faces m) (final c) final_is.1;
       }

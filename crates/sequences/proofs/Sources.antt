@@ -114,6 +114,6 @@ module _ (sc : Scene) (fs : List Face) (p : ℕ) where
 pub sources : (c : Case) → Sources c
 sources c =
     record {
-      full_from = λ p h. shown-from c.mesh.sc (faces c.mesh) p (at (full c.mesh) p) ((pictures c).full-shows p h);
-      final-from = λ p h. shown-from c.mesh.sc (kept_faces c.mesh) p (at (final c) p) ((pictures c).final-shows p h);
+      full_from = λ p h. shown-from c.mesh.sc (faces c.mesh) p (at (full c.mesh) p) ((pictures c).full_shows p h);
+      final_from = λ p h. shown-from c.mesh.sc (kept_faces c.mesh) p (at (final c) p) ((pictures c).final_shows p h);
     }

@@ -60,12 +60,12 @@ pub record Pictures (c : Case) : Type 0 where
   -- every call of the plan is accepted
   pub answered : Accepted c.mesh.sc c.mesh.rs c.plan.keeps
   -- both layers have the image's lengths
-  pub full-spans : Spans (full c.mesh) (pixel_count c.mesh.sc)
-  pub final-spans : Spans (final c) (pixel_count c.mesh.sc)
+  pub full_spans : Spans (full c.mesh) (pixel_count c.mesh.sc)
+  pub final_spans : Spans (final c) (pixel_count c.mesh.sc)
   -- the last layer has the full drawing's depth and weight bits and, renumbered, its map
   pub depths : (final c).pix2depth ≡ (full c.mesh).pix2depth
   pub weights : (final c).pix2weights ≡ (full c.mesh).pix2weights
   pub maps : (final c).pix2tri ≡ map (renumber empty c.mesh.keep) (full c.mesh).pix2tri
   -- each covered pixel has number, depth and weights of the first offer of greatest depth; every other pixel is clear, weights too
-  pub full-shows : (p : ℕ) → p < pixel_count c.mesh.sc → Shows no_hit (offers c.mesh.sc (faces c.mesh) 0 p) (at (full c.mesh) p)
-  pub final-shows : (p : ℕ) → p < pixel_count c.mesh.sc → Shows no_hit (offers c.mesh.sc (kept_faces c.mesh) 0 p) (at (final c) p)
+  pub full_shows : (p : ℕ) → p < pixel_count c.mesh.sc → Shows no_hit (offers c.mesh.sc (faces c.mesh) 0 p) (at (full c.mesh) p)
+  pub final_shows : (p : ℕ) → p < pixel_count c.mesh.sc → Shows no_hit (offers c.mesh.sc (kept_faces c.mesh) 0 p) (at (final c) p)

@@ -33,4 +33,4 @@ pub record FromPiece (sc : Scene) (fs : List Face) (p : ℕ) (c : Cell) : Type 0
 -- so every pixel of the whole drawing, and of the layer that remains
 pub record Sources (c : Case) : Type 0 where
   pub full_from : (p : ℕ) → p < pixel_count c.mesh.sc → (at (full c.mesh) p ≡ clear) ⊎ FromPiece c.mesh.sc (faces c.mesh) p (at (full c.mesh) p)
-  pub final-from : (p : ℕ) → p < pixel_count c.mesh.sc → (at (final c) p ≡ clear) ⊎ FromPiece c.mesh.sc (kept_faces c.mesh) p (at (final c) p)
+  pub final_from : (p : ℕ) → p < pixel_count c.mesh.sc → (at (final c) p ≡ clear) ⊎ FromPiece c.mesh.sc (kept_faces c.mesh) p (at (final c) p)

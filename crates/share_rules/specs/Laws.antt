@@ -81,12 +81,12 @@ module _ (axis : ℕ) (m xyz : List Float) where
 module _ (tri : List ℕ) {map : List ℕ} (m xyz : List Float) {w h : ℕ} (a : Axis) {e : Edge} {r : Pair} (k : PairAt map w h e r) where
   pub shares_equal : r.first ≡ r.second → shares_at a (edge_view (view_of tri map) m xyz w) e ≡ []
   unfolding shares_at
-  shares_equal p = rw (← k.first_entry, ← k.second-entry, eq-eqb _ _ p)
+  shares_equal p = rw (← k.first_entry, ← k.second_entry, eq-eqb _ _ p)
 
   pub shares_unequal : (r.first ≡ r.second → ⊥) → shares_at a (edge_view (view_of tri map) m xyz w) e
       ≡ between a.down m xyz (named tri r.first) (named tri r.second) (centre_of e.first) (centre_of e.second)
   unfolding shares_at
-  shares_unequal ne = rw (← k.first_entry, ← k.second-entry, ne_eqb _ _ ne)
+  shares_unequal ne = rw (← k.first_entry, ← k.second_entry, ne_eqb _ _ ne)
 
 -- what its entries show
 pub both-shown : {tri map : List ℕ} {xyz : List Float} {w h : ℕ} → SoundMap tri xyz map w h → (m : List Float) {e : Edge} {r : Pair} → PairAt map w h e r → (r.first ≡ r.second → ⊥)

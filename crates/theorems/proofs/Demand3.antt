@@ -55,4 +55,4 @@ labels c t e w h picture =
     ∙ sym (ap (λ (l : Layer). labelling l.pix2tri kept w h picture) (final-renumbered c ∙ ap (renumbered (renumber empty m.keep)) (full_is m)))
 
 pub demand3 : Demand3
-demand3 = record { pictures_same = pictures; passes_same = passes; labels_same = labels; gradients-kept = untouched }
+demand3 = record { pictures_same = pictures; passes_same = passes; labels_same = labels; gradients_kept = untouched }

@@ -76,4 +76,4 @@ pub record Demand3 : Type 0 where
   pub pictures_same : (c : Case) → Pictures c
   pub passes_same : (c : Case) (xyz : List Float) → length xyz ≡ length c.mesh.sc.vertices → Passes c xyz
   pub labels_same : (c : Case) (tri2body : List ℕ) → length tri2body ≡ length (faces c.mesh) → Labels c tri2body
-  pub gradients-kept : (tri names : List ℕ) (v : ℕ) → Unnamed tri names v → Untouched tri names v
+  pub gradients_kept : (tri names : List ℕ) (v : ℕ) → Unnamed tri names v → Untouched tri names v

@@ -20,7 +20,7 @@ use Rattle.theorems.specs.Examples.Edges.{typed_of, typed, typed_as}
 
 pub record Marked : Type 0 where
   -- T(0.25): four pixels, number 0, depth 0.25.
-  pub one-face : drawing blank (0 ∷ 1 ∷ 2 ∷ []) (corners quarter) zero one ≡ outcome 0 (layer (four 0) (four quarter) in_t)
+  pub one_face : drawing blank (0 ∷ 1 ∷ 2 ∷ []) (corners quarter) zero one ≡ outcome 0 (layer (four 0) (four quarter) in_t)
   -- T(0.25) twice: number 0.
   pub twice : drawing blank (0 ∷ 1 ∷ 2 ∷ 0 ∷ 1 ∷ 2 ∷ []) (corners quarter) zero one ≡ outcome 0 (layer (four 0) (four quarter) in_t)
   -- No faces: still clear.
@@ -44,7 +44,7 @@ pub marked : Marked
 unfolding faced showing typed_of root of_bits
 marked =
     record {
-      one-face = refl;
+      one_face = refl;
       twice = refl;
       no_faces = refl;
       nan_kept = refl;

@@ -14,10 +14,10 @@ use Rattle.axis_bwd.proofs.Turns.{down_edge, down-within, summing_none, summing_
 use Rattle.axis_bwd.proofs.scatter_axis.Goals as goal
 
 pub overflow_sub-rows : goal.overflow_sub-rows
-overflow_sub-rows c = omega (arith, c.requires.sound_map.size.h-least, c.requires.right_bound.1)
+overflow_sub-rows c = omega (arith, c.requires.sound_map.size.h_least, c.requires.right_bound.1)
 
 pub overflow_sub-n : goal.overflow_sub-n
-overflow_sub-n c = omega (arith, c.requires.sound_map.size.w-least, c.requires.right_bound.0)
+overflow_sub-n c = omega (arith, c.requires.sound_map.size.w_least, c.requires.right_bound.0)
 
 pub overflow_mul-n : goal.overflow_mul-n
 overflow_mul-n c = record { fits = omega (arith, edges_few c.requires.sound_map.size.w_most c.requires.sound_map.size.h_most c.args.right c.args.down) }

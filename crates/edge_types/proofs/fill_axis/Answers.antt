@@ -12,10 +12,10 @@ use Rattle.edge_types.proofs.Filling.{filling_none, filling_more, filling_all}
 use Rattle.edge_types.proofs.fill_axis.Goals as goal
 
 pub overflow_sub-columns : goal.overflow_sub-columns
-overflow_sub-columns c = omega (arith, c.requires.sound_map.size.w-least)
+overflow_sub-columns c = omega (arith, c.requires.sound_map.size.w_least)
 
 pub overflow_sub-n : goal.overflow_sub-n
-overflow_sub-n c = omega (arith, c.requires.sound_map.size.h-least)
+overflow_sub-n c = omega (arith, c.requires.sound_map.size.h_least)
 
 pub overflow_mul-n : goal.overflow_mul-n
 overflow_mul-n c = record { fits = omega (arith, edges_few c.requires.sound_map.size.w_most c.requires.sound_map.size.h_most c.args.right c.args.down) }

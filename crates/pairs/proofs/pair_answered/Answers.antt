@@ -6,7 +6,7 @@ use Rattle.pairs.proofs.pair_answered.Goals as goal
 
 pub returns-then-pair : goal.returns-then-pair
 unfolding answered
-returns-then-pair c = let k = c.pair_at-pair.ensures in rw (← k.first_entry, ← k.second-entry, eq-eqb _ _ c.if-pair.true)
+returns-then-pair c = let k = c.pair_at-pair.ensures in rw (← k.first_entry, ← k.second_entry, eq-eqb _ _ c.if-pair.true)
 
 pub projects-requires : goal.projects-requires
 projects-requires c = record { sound_mesh = c.requires.sound_map.mesh; value = first-named c.requires.sound_map c.pair_at-pair.ensures }
@@ -14,7 +14,7 @@ projects-requires c = record { sound_mesh = c.requires.sound_map.mesh; value = f
 pub returns-then-not-projects : goal.returns-then-not-projects
 unfolding answered
 returns-then-not-projects c = let k = c.pair_at-pair.ensures in
-    rw (← k.first_entry, ← k.second-entry, ne_eqb _ _ c.if-pair.false, said_no c.projects.ensures c.if-not-projects.true-raw)
+    rw (← k.first_entry, ← k.second_entry, ne_eqb _ _ c.if-pair.false, said_no c.projects.ensures c.if-not-projects.true-raw)
 
 pub projects-requires-2 : goal.projects-requires-2
 projects-requires-2 c = record { sound_mesh = c.requires.sound_map.mesh; value = second-named c.requires.sound_map c.pair_at-pair.ensures }
@@ -22,5 +22,5 @@ projects-requires-2 c = record { sound_mesh = c.requires.sound_map.mesh; value =
 pub returns : goal.returns
 unfolding answered
 returns c = let k = c.pair_at-pair.ensures in
-    rw (← k.first_entry, ← k.second-entry, ne_eqb _ _ c.if-pair.false, said_yes c.projects.ensures c.if-not-projects.false-raw)
+    rw (← k.first_entry, ← k.second_entry, ne_eqb _ _ c.if-pair.false, said_yes c.projects.ensures c.if-not-projects.false-raw)
     c.projects-2.ensures

@@ -15,5 +15,5 @@ returns c = let p = c.number-p.ensures in
       q_number = q.0;
       q_below = q.1;
       first_entry = entry_read map c.number-p.result (omega arith) ∙ ap (entry_at map) p.0;
-      second-entry = entry_read map c.number-q.result (omega arith) ∙ ap (entry_at map) q.0;
+      second_entry = entry_read map c.number-q.result (omega arith) ∙ ap (entry_at map) q.0;
     }

@@ -37,7 +37,7 @@ asked tri xyz w h removed full short e =
     record {
       mesh = λ m. record { sized = one.0; faces = groups3.0; vertices = groups3.1; corners = six.0 };
       marks = exactly _ _ lengths.0;
-      full-spans = exact-spans w h full layers.0;
+      full_spans = exact-spans w h full layers.0;
       short_spans = exact-spans w h short layers.1;
     }
 
@@ -66,5 +66,5 @@ module _ {tri : List ℕ} {xyz : List Float} {w h : ℕ} {removed : List ℕ} {f
   full-drawn =
       let kept : flat (kept_from every 0 (faces_of tri)) ≡ tri = ap flat (kept-every 0 (faces_of tri)) ∙ threes_of tri (a.mesh m).faces in
       ap (λ (t : List ℕ). (draws (clearing full w h).left t xyz w h m 0 0).left) (sym kept)
-      ∙ alone every all_faces (a.mesh m) full a.full-spans
+      ∙ alone every all_faces (a.mesh m) full a.full_spans
       ∙ ap (λ (fs : List Face). fresh (scene m xyz w h All) fs 0) (kept-every 0 (faces_of tri))

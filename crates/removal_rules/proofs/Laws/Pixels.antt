@@ -56,7 +56,7 @@ module _ {keep : ℕ → Bool} {full short : List ℕ} {n : ℕ} (t : Matched ke
 
   -- where it is removed the pixel was not empty
   not-empty : keep old ≡ false → eqb old empty ≡ false
-  not-empty k = ne_eqb old empty (λ e. true≢false (sym t.empty-kept ∙ ap keep (sym e) ∙ k))
+  not-empty k = ne_eqb old empty (λ e. true≢false (sym t.empty_kept ∙ ap keep (sym e) ∙ k))
 
   pub empties : goes_empty old new ≡ not (keep old) && eqb new empty
   unfolding goes_empty
@@ -115,4 +115,4 @@ module _ (sc : Scene) (fs : List Face) (keep : ℕ → Bool) (few : length fs �
       go (inr (l, held)) = inr (omega (arith, holds_face sc fs (entry_at (drawn_map sc fs) p) p held))
 
   pub drawings_match : keep empty ≡ true → Matched keep (drawn_map sc fs) (drawn_map sc kept) (pixel_count sc)
-  drawings_match e = record { empty-kept = e; named = λ p h. entry_named p; stays = entry_stays }
+  drawings_match e = record { empty_kept = e; named = λ p h. entry_named p; stays = entry_stays }

@@ -73,11 +73,11 @@ module _ (tri : List ℕ) (xyz : List Float) (w h : ℕ) (m : List Float) (remov
   marks : length removed ≡ length fs
   marks = yes.marks ∙ sym (length-faces tri)
 
-  empty-kept : keep empty ≡ true
-  empty-kept = keep-empty removed (omega (arith, marks, few))
+  empty_kept : keep empty ≡ true
+  empty_kept = keep-empty removed (omega (arith, marks, few))
 
   matched : Matched keep told.full.pix2tri told.short.pix2tri (w * h)
-  matched = rw (full_is, short_is) (drawings_match sc fs keep few empty-kept)
+  matched = rw (full_is, short_is) (drawings_match sc fs keep few empty_kept)
 
   told-counts : told.preview ≡ counted keep told.full.pix2tri told.short.pix2tri (w * h)
   unfolding compared
@@ -96,7 +96,7 @@ module _ (tri : List ℕ) (xyz : List Float) (w h : ℕ) (m : List Float) (remov
       where
         go : (entry_at (drawn_map sc fs) p ≡ empty) ⊎ ((p < w * h) × Holds sc fs (entry_at (drawn_map sc fs) p) p) → (k : Bool) → keep (entry_at (drawn_map sc fs) p) ≡ k → k ≡ true
         go t true k = refl
-        go (inl e) false k = sym k ∙ ap keep e ∙ empty-kept
+        go (inl e) false k = sym k ∙ ap keep e ∙ empty_kept
         go (inr (l, held)) false k = absurd (idle (entry_at (drawn_map sc fs) p) (holds_face sc fs (entry_at (drawn_map sc fs) p) p held) (rw k tt) p l held)
 
     entry-renumbered : (p : ℕ) → entry_at (drawn_map sc (kept_from keep 0 fs)) p ≡ renumber empty keep (entry_at (drawn_map sc fs) p)

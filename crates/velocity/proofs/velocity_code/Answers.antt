@@ -15,7 +15,7 @@ returns-then-not-groups_ok c = passes 1 _ (said_yes c.sizes_ok.ensures c.if-not-
     (refuses 3 _ (said_no c.groups_ok.ensures c.if-not-groups_ok.true-raw))
 
 pub edge_count-requires : goal.edge_count-requires
-edge_count-requires c = let s = sized 2 _ _ (said_yes c.sizes_ok.ensures c.if-not-sizes_ok.false-raw) in record { img_w_bound = (s.w_most, s.h_most); right_le_img_w = (omega arith, omega (arith, s.h-least)) }
+edge_count-requires c = let s = sized 2 _ _ (said_yes c.sizes_ok.ensures c.if-not-sizes_ok.false-raw) in record { img_w_bound = (s.w_most, s.h_most); right_le_img_w = (omega arith, omega (arith, s.h_least)) }
 
 pub returns-then-hedge2vy-edge_count : goal.returns-then-hedge2vy-edge_count
 unfolding velocity_code
@@ -24,7 +24,7 @@ returns-then-hedge2vy-edge_count c = passes 1 _ (said_yes c.sizes_ok.ensures c.i
     (refuses 4 _ (after_no _ (exact_no _ _ (λ e. c.if-hedge2vy-edge_count.true (e ∙ sym c.edge_count.ensures))))))
 
 pub edge_count-requires-2 : goal.edge_count-requires-2
-edge_count-requires-2 c = let s = sized 2 _ _ (said_yes c.sizes_ok.ensures c.if-not-sizes_ok.false-raw) in record { img_w_bound = (s.w_most, s.h_most); right_le_img_w = (omega (arith, s.w-least), omega arith) }
+edge_count-requires-2 c = let s = sized 2 _ _ (said_yes c.sizes_ok.ensures c.if-not-sizes_ok.false-raw) in record { img_w_bound = (s.w_most, s.h_most); right_le_img_w = (omega (arith, s.w_least), omega arith) }
 
 pub returns-then-vedge2vx-edge_count : goal.returns-then-vedge2vx-edge_count
 unfolding velocity_code
