@@ -134,13 +134,21 @@ def together(names, turned, foreign):
     return clashes
 
 
+# Where a comment begins, of .antt, .rt and .edit files.
+COMMENT = re.compile(r"(?:^|(?<=\s))--(?=\s|$)|//|^#(?!!?\[)", re.M)
+
+
 def turn(text, turned):
-    return WORD.sub(lambda m: turned.get(m.group(0), m.group(0)), text)
+    """The text with the names turned; a comment's formulas keep their middle dot."""
 
+    def line(part):
+        m = COMMENT.search(part)
+        at = m.start() if m else len(part)
+        name = lambda m: turned.get(m.group(0), m.group(0))
+        word = lambda m: m.group(0) if "·" in m.group(0) else name(m)
+        return WORD.sub(name, part[:at]) + WORD.sub(word, part[at:])
 
-def turn_rt(text, turned):
-    """Ghost items and clauses alone: code has no word of these spellings, so what is in camel case or in a `ghost use` is turned."""
-    return turn(text, turned)
+    return "\n".join(line(part) for part in text.split("\n"))
 
 
 def main(argv):

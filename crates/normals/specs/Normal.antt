@@ -15,7 +15,7 @@ module _ {A : Type 0} (R : Arith A) where
   unfoldable pub over3 : Vec3 A → A → Vec3 A
   over3 n r = vec3 (n.x ⊘ r) (n.y ⊘ r) (n.z ⊘ r)
 
--- "n over the f32 root of n_dot_n"
+-- "n over the f32 root of n·n"
 unfoldable pub unit : Vec3 Float → Vec3 Float
 unit n = over3 floats n (root binary32 (dot3 floats n n))
 

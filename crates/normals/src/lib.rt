@@ -8,7 +8,7 @@ ghost use Rattle.normals.specs.Normal as normal;
 
 use geometry::Vec3;
 
-// n over the root of n_dot_n.
+// n over the root of n·n.
 fn unit(n: Vec3) -> Vec3
     ensures { point3 result ≡ normal.unit (point3 n) }
 {

@@ -1,2 +1,2 @@
-// Offers: a depth with a payload of any type, as definitions and laws, in specs/. There is no code here.
+// Offers: a depth with a payload of any type, as definitions, in specs/, and laws, in proofs/. There is no code here.
 #![tactic(auto)]

@@ -19,7 +19,7 @@ module _ {A : Type 0} (R : Arith A) where
   unfoldable pub hit : Vec3 A → Vec3 A → Ray A → Vec3 A
   hit p0 n r = along3 R r (distance p0 n r)
 
-  -- ((p1−q)×(p2−q))·n / n_dot_n
+  -- ((p1−q)×(p2−q))·n / n·n
   unfoldable pub weight : Vec3 A → Vec3 A → Vec3 A → Vec3 A → A
   weight n q p1 p2 = dot3 R (cross3 R (minus3 R p1 q) (minus3 R p2 q)) n ⊘ dot3 R n n
 

@@ -101,7 +101,7 @@ module _ {A : Type 0} (R : Arith A) (L : Laws R) (p m : Triangle (Vec3 A)) (r : 
       (:0 :* var 0 :+ of_u E (weights (var 3) (var 4) (var 5)) :* var 1 :+ of_v E (weights (var 3) (var 4) (var 5)) :* var 2) refl
       ∙ shares_true R L p m r h R.zero (of_u R g) (of_v R g)
 
-  -- Where D and n_dot_n can be divided by: for one pixel, any number of channels c, vertices and values both moving, the derivative of the loss is
+  -- Where D and n·n can be divided by: for one pixel, any number of channels c, vertices and values both moving, the derivative of the loss is
   -- what the gradients that the pass adds say of the movement.
   pub loss_true : (x y : Triangle (ℕ → A)) (d : ℕ → A) (c : ℕ)
       → (loss (duals R) P line (moving_values x y) (λ j. still R (d j)) c).eps

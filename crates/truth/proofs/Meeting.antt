@@ -73,7 +73,7 @@ module _ {A : Type 0} (R : Arith A) (L : Laws R) (p : Triangle (Vec3 A)) (b1 b2 
   unfolding weights_at weighted
   weights-made = λ i. weights (weight0 R L p b1 b2 h i) (weight1 R L p b1 b2 h i) (weight2 R L p b1 b2 h i)
 
--- Where D and n_dot_n can be divided by, the forward weights of a pixel are the weights of its backward pass.
+-- Where D and n·n can be divided by, the forward weights of a pixel are the weights of its backward pass.
 pub weights_agree : {A : Type 0} (R : Arith A) → Laws R → (p : Triangle (Vec3 A)) (r : Ray A) (dt du dv : A)
     → Invertible R (D R p r)
     → Invertible R (n_dot_n R p)

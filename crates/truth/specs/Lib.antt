@@ -9,7 +9,7 @@
 --   Loss        `loss_true`                   what a pixel adds to vertices and values is the derivative of its part of the loss
 --   Pass        `pass_true`                   so of every pixel, into lent buffers
 --   Projection  `pull_true`, `edge_true`      `jacobian_transform`, and what an edge gives the corners of a face
---   Weights     `weights-sum`, `weights_place`, `weights_depth_lem`   the corner weights of drawing: they sum to 1, place the pixel and give the depth
+--   Weights     `weights-sum`, `weights_place`, `weights_depth_lem`  the corner weights of drawing: they sum to 1, place the pixel and give the depth
 --   Ties        at f32 these formulas are what `interpolate` writes, what `interpolate_bwd` and `bwd` add, and the weights of drawing
 --   Rationals   the laws hold of the rational numbers (in specs/); Examples computes one
 --

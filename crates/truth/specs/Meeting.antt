@@ -5,7 +5,7 @@ use Rattle.rays.specs.Space.{Ray, minus3, dot3}
 use Rattle.rays.specs.Plane.{normal}
 use Rattle.rays_bwd.specs.Backward.{frame_of, meets_t, meets_u, meets_v}
 
--- the backward formula's D, t, u and v, and the forward one's n_dot_n
+-- the backward formula's D, t, u and v, and the forward one's n·n
 
 abbrev pub n_dot_n : {A : Type 0} → Arith A → Triangle (Vec3 A) → A
 n_dot_n R p = dot3 R (normal R p) (normal R p)

@@ -7,7 +7,7 @@
 #![tactic(auto)]
 
 use std::io;
-use std::io::{BufReader, BufWriter, Read, Write};
+use std::io::{Read, Write};
 
 const SPACE: u8 = 32;
 
@@ -48,11 +48,11 @@ fn run_one<R: Read, W: Write>(input: &mut R, output: &mut W) -> io::Result<bool>
 }
 
 fn main(rt: HostRuntime) -> io::Result<()> {
-    let mut input = BufReader::new(rt.alloc(), rt.reader())?;
-    let mut output = BufWriter::new(rt.alloc(), io::writer(&rt))?;
+    let mut input = rt.reader();
+    let mut output = io::writer(&rt);
     let mut turns: u64 = 1_000_000;
     while turns > 0 && run_one(&mut input, &mut output)? {
         turns -= 1;
     }
-    output.flush()
+    Ok(())
 }

@@ -1,2 +1,2 @@
-// Theorems about what a pass sees of a map, in specs/. There is no code here.
+// What a pass sees of a map: definitions, in specs/, and theorems, in proofs/. There is no code here.
 #![tactic(auto)]
