@@ -10,7 +10,6 @@ use Rattle.std.proofs.lemmas.List.{length-map}
 use Rattle.std.proofs.Math.ListN.{get_or-map, get_or-eq_default}
 use Rattle.lists.specs.Laws.Every.{every_of}
 use Rattle.questions.specs.Questions.{groups, all_below, names_face, names_faces, empty, most_count}
-use Rattle.meshes.specs.Mesh.{face_at}
 use Rattle.meshes.specs.View.{named, entry_at, view_of}
 use Rattle.meshes.specs.Laws.{named_none, named_some}
 use Rattle.views.specs.Alike.{Alike}
