@@ -1,2 +1,2 @@
 -- Lemmas that several proofs cite.
-pub mod Infinities
+pub mod Tested

@@ -3,11 +3,11 @@
 
 ghost use Rattle.std.specs.Prelude.{◌≡◌, ◌<◌};
 ghost use Rattle.geometry.specs.Arith.{floats};
-ghost use Rattle.geometry.specs.Vector.{weights};
 ghost use Rattle.geometry.specs.Formula as formula;
+ghost use Rattle.geometry.specs.Vector as vector;
 ghost use Rattle.std.specs.Float.Ieee.Scale as scale;
 ghost use Rattle.geometry.specs.Leaf as leaf;
-ghost use Rattle.geometry.specs.Answer.{point2, point3, weights_of, corner_weights_of, projection_of};
+ghost use Rattle.geometry.specs.Answer.{point2, point3, weights_of, maybe_weights, corner_weights_of, projection_of};
 
 #[derive(Clone, Copy)]
 pub struct Vec2 {
@@ -22,84 +22,97 @@ pub struct Vec3 {
     pub z: f32,
 }
 
-// A projected point and the divisor w that it came from.
+// A projected point p, and the divisor w that it came from.
 #[derive(Clone, Copy)]
 pub struct Projected {
-    pub x: f32,
-    pub y: f32,
-    pub z: f32,
+    pub p: Vec3,
     pub w: f32,
 }
 
+// Three corners of a face, in order.
 #[derive(Clone, Copy)]
-pub enum Projection {
-    At(Projected),
-    Nowhere,
+pub struct Triangle<P> {
+    pub p0: P,
+    pub p1: P,
+    pub p2: P,
 }
 
+// A weight for each corner.
 #[derive(Clone, Copy)]
-pub enum Weights {
-    Three(f32, f32, f32),
-    Nothing,
+pub struct Weights {
+    pub b0: f32,
+    pub b1: f32,
+    pub b2: f32,
 }
 
-// Three weights, and the sum of the areas that they are over: the doubled signed area of the triangle.
+// Weights b, and the sum s of the areas that they are over: the doubled signed area of the triangle.
 #[derive(Clone, Copy)]
-pub enum CornerWeights {
-    Three(f32, f32, f32, f32),
-    Nothing,
+pub struct CornerWeights {
+    pub b: Weights,
+    pub s: f32,
+}
+
+// A point seen from the front: its first two coordinates.
+pub fn flat(p: Vec3) -> Vec2
+    ensures { point2 result ≡ vector.flat (point3 p) }
+{
+    Vec2 { x: p.x, y: p.y }
 }
 
 // Neither an infinity nor a NaN.
+#[tactic(auto, using(crate::proofs::Tested::is_finite))]
 pub fn finite(x: f32) -> bool
     ensures { result ≡ scale.finite x }
 {
-    if x < f32::from_bits(0x7f80_0000) {
-        return f32::from_bits(0xff80_0000) < x;
-    }
-    false
+    x.is_finite()
 }
 
+#[tactic(auto, unfolding(crate::specs::Formula::cross2))]
 pub fn cross2(a: Vec2, b: Vec2, c: Vec2) -> f32
     ensures { result ≡ formula.cross2 floats (point2 a) (point2 b) (point2 c) }
 {
     (b.x - a.x) * (c.y - a.y) - (b.y - a.y) * (c.x - a.x)
 }
 
-// Weights a / s from the areas a and their sum s, none when s is 0 or not finite.
-pub fn weighed(a0: f32, a1: f32, a2: f32, s: f32) -> Weights
-    ensures { weights_of result ≡ leaf.weighed (weights a0 a1 a2) s }
+// The areas a over their sum s, none when s is 0 or not finite.
+#[tactic(auto, unfolding(crate::specs::Leaf::weighed, crate::specs::Formula::over_total))]
+pub fn weighed(a: Weights, s: f32) -> Option<Weights>
+    ensures { maybe_weights result ≡ leaf.weighed (weights_of a) s }
 {
-    if !finite(s) {
-        return Weights::Nothing;
+    if !finite(s) || s == 0.0 {
+        return None;
     }
-    if s == 0.0 {
-        return Weights::Nothing;
-    }
-    Weights::Three(a0 / s, a1 / s, a2 / s)
+    Some(Weights {
+        b0: a.b0 / s,
+        b1: a.b1 / s,
+        b2: a.b2 / s,
+    })
 }
 
-pub fn corner_weights(q: Vec2, p0: Vec2, p1: Vec2, p2: Vec2) -> CornerWeights
-    ensures { corner_weights_of result ≡ leaf.corner_weights (point2 q) (point2 p0) (point2 p1) (point2 p2) }
+#[tactic(auto, unfolding(crate::specs::Leaf::corner_weights, crate::specs::Leaf::weighed_with_sum, crate::specs::Leaf::weighed_all, crate::specs::Leaf::with_sum, crate::specs::Formula::areas, crate::specs::Formula::total))]
+pub fn corner_weights(q: Vec2, t: Triangle<Vec2>) -> Option<CornerWeights>
+    ensures { corner_weights_of result ≡ leaf.corner_weights (point2 q) (point2 t.p0) (point2 t.p1) (point2 t.p2) }
 {
-    let a0 = cross2(q, p1, p2);
-    let a1 = cross2(q, p2, p0);
-    let a2 = cross2(q, p0, p1);
-    let s = a0 + a1 + a2;
-    let Weights::Three(b0, b1, b2) = weighed(a0, a1, a2, s) else {
-        return CornerWeights::Nothing;
+    let a = Weights {
+        b0: cross2(q, t.p1, t.p2),
+        b1: cross2(q, t.p2, t.p0),
+        b2: cross2(q, t.p0, t.p1),
     };
-    CornerWeights::Three(b0, b1, b2, s)
+    let s = a.b0 + a.b1 + a.b2;
+    let b = weighed(a, s)?;
+    Some(CornerWeights { b, s })
 }
 
 // One coordinate of a point from weights.
-pub fn blend(b0: f32, b1: f32, b2: f32, p0: f32, p1: f32, p2: f32) -> f32
-    ensures { result ≡ formula.blend floats (weights b0 b1 b2) p0 p1 p2 }
+#[tactic(auto, unfolding(crate::specs::Formula::blend))]
+pub fn blend(b: Weights, p0: f32, p1: f32, p2: f32) -> f32
+    ensures { result ≡ formula.blend floats (weights_of b) p0 p1 p2 }
 {
-    b0 * p0 + b1 * p1 + b2 * p2
+    b.b0 * p0 + b.b1 * p1 + b.b2 * p2
 }
 
 // Row r of the matrix times x.
+#[tactic(auto, unfolding(crate::specs::Formula::row))]
 pub fn row(m: &[f32; 16], r: usize, x: Vec3) -> f32
     requires { r < 4 }
     ensures { result ≡ formula.row floats (leaf.entries m.now) r (point3 x) }
@@ -107,20 +120,19 @@ pub fn row(m: &[f32; 16], r: usize, x: Vec3) -> f32
     m[r] * x.x + m[4 + r] * x.y + m[8 + r] * x.z + m[12 + r]
 }
 
-pub fn project(m: &[f32; 16], x: Vec3) -> Projection
+// None where the divisor is 0.
+#[tactic(auto, unfolding(crate::specs::Leaf::project, crate::specs::Leaf::divided, crate::specs::Formula::over))]
+pub fn project(m: &[f32; 16], x: Vec3) -> Option<Projected>
     ensures { projection_of result ≡ leaf.project m.now (point3 x) }
 {
-    let y0 = row(m, 0, x);
-    let y1 = row(m, 1, x);
-    let y2 = row(m, 2, x);
-    let y3 = row(m, 3, x);
-    if y3 == 0.0 {
-        return Projection::Nowhere;
+    let w = row(m, 3, x);
+    if w == 0.0 {
+        return None;
     }
-    Projection::At(Projected {
-        x: y0 / y3,
-        y: y1 / y3,
-        z: y2 / y3,
-        w: y3,
-    })
+    let p = Vec3 {
+        x: row(m, 0, x) / w,
+        y: row(m, 1, x) / w,
+        z: row(m, 2, x) / w,
+    };
+    Some(Projected { p, w })
 }

@@ -3,9 +3,9 @@ use Rattle.std.specs.Prelude.{Bool, true, false, ◌&&◌, List, Float}
 use Rattle.std.proofs.Math.Option.{Option, none, some}
 use Rattle.std.specs.Float.Ieee.{le}
 use Rattle.geometry.specs.Arith.{floats}
-use Rattle.geometry.specs.Vector.{Vec2, flat, Weights, Weighed, Projected, Triangle, triangle}
-use Rattle.geometry.specs.Leaf.{corner_weights, project}
-use Rattle.meshes.specs.Mesh.{Face, vertex_at}
+use Rattle.geometry.specs.Vector.{Vec2, flat, Weights, Weighed, Projected, Triangle}
+use Rattle.geometry.specs.Leaf.{corner_weights}
+use Rattle.meshes.specs.Mesh.{Face, project_face}
 
 unfoldable pub all_at_least_zero : Weights Float → Bool
 all_at_least_zero b = le floats.zero b.b0 && (le floats.zero b.b1 && le floats.zero b.b2)
@@ -14,17 +14,6 @@ all_at_least_zero b = le floats.zero b.b0 && (le floats.zero b.b1 && le floats.z
 unfoldable pub all_inside : Option (Weighed Float) → Bool
 all_inside none = false
 all_inside (some a) = all_at_least_zero a.b
-
--- three corners, or none where one of them is missing
-unfoldable pub all_three : {A : Type 0} → Option A → Option A → Option A → Option (Triangle A)
-all_three none b c = none
-all_three (some a) none c = none
-all_three (some a) (some b) none = none
-all_three (some a) (some b) (some c) = some (triangle a b c)
-
--- a face's corners as the matrix m projects them
-unfoldable pub project_face : List Float → List Float → Face → Option (Triangle (Projected Float))
-project_face m xyz f = all_three (project m (vertex_at xyz f.v0)) (project m (vertex_at xyz f.v1)) (project m (vertex_at xyz f.v2))
 
 -- the weights of q in a projected face; none, too, where a corner has no projection, which question 8 refuses
 unfoldable pub weights_in : Vec2 Float → Option (Triangle (Projected Float)) → Option (Weighed Float)

@@ -13,7 +13,8 @@ use Rattle.geometry.specs.Leaf.{project}
 use Rattle.meshes.specs.Mesh.{vertex_at, face_at}
 use Rattle.meshes.specs.View.{named}
 use Rattle.meshes.specs.Sound.{SoundMesh}
-use Rattle.inside.specs.Inside.{all_three, project_face, present, projects}
+use Rattle.inside.specs.Inside.{present, projects}
+use Rattle.meshes.specs.Mesh.{all_three, project_face}
 use Rattle.inside.specs.Steps.{all_project}
 
 pub all_three_lem : {A : Type 0} (a b c : Option A) → present (all_three a b c) ≡ (present a && (present b && present c))

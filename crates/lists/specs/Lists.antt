@@ -1,5 +1,6 @@
 -- Tables of a function, numbers in a row, a test of each, those that pass one, and sums.
 use Rattle.std.specs.Prelude.{ℕ, zero, suc, ◌+◌, Bool, true, ◌&&◌, cond}
+use Rattle.std.specs.List.{list_all}
 use mathlib.Core.List.{List, [], ◌∷◌, map, sum}
 
 -- f at n numbers in a row, from p on
@@ -12,9 +13,8 @@ abbrev pub span : ℕ → ℕ → List ℕ
 span a n = tabulate (λ i. i) a n
 
 -- whether every number of a list passes a test
-unfoldable pub every : (ℕ → Bool) → List ℕ → Bool
-every test [] = true
-every test (x ∷ xs) = test x && every test xs
+abbrev pub every : (ℕ → Bool) → List ℕ → Bool
+every = list_all
 
 -- the entries of a list that pass a test, in order
 unfoldable pub filter : {A : Type 0} → (A → Bool) → List A → List A

@@ -6,12 +6,9 @@ use mathlib.Core.List.{List, [], ◌∷◌, ◌++◌, flat_map}
 use Rattle.lists.specs.Lists.{span}
 use Rattle.lists.specs.Laws.Turns.{flat_map_none, flat_map-one, flat_map-add}
 use Rattle.lists.specs.Laws.Every.{every-at, every_of}
-use Rattle.geometry.specs.Vector.{Projected}
-use Rattle.geometry.specs.Answer.{projection_of}
-use Rattle.geometry.specs.declared.Projection.{Projection}
 use Rattle.questions.specs.Questions.{all_below, names_face, names_faces, empty, most_count}
 use Rattle.questions.specs.Laws.{Sized, Grouped, whole, below_at}
-use Rattle.meshes.specs.Mesh.{Face, face, face_at, faces_of, flat}
+use Rattle.meshes.specs.Mesh.{Face, face, face_at, faces_of, flat, Among}
 use Rattle.meshes.specs.View.{named, entry_at}
 use Rattle.meshes.specs.Sums.{Addition, added, summed}
 use Rattle.meshes.specs.Sound.{SoundMesh, SoundMap}
@@ -33,10 +30,6 @@ named_none tri x e = rw (eq-eqb x empty e)
 pub named_some : (tri : List ℕ) (x : ℕ) → (x ≡ empty → ⊥) → named tri x ≡ some (face_at tri x)
 unfolding named
 named_some tri x e = rw (ne_eqb x empty e)
-
--- a projection as a `match` on it found it
-pub found : {e f : Projection} {t : Option (Projected Float)} → projection_of e ≡ t → e ≡ f → t ≡ projection_of f
-found k same = sym k ∙ ap projection_of same
 
 -- ---- the faces of a list
 
@@ -188,6 +181,14 @@ corner_there {tri} {xyz} s j h =
     let e = s.vertices in
     let l = below_at (length xyz / 3) tri s.named j h in
     omega arith
+
+-- the corners of face number i are among the vertices
+pub corners_there : {tri : List ℕ} {xyz : List Float} (f : Face) (i : ℕ) → SoundMesh tri xyz → f ≡ face_at tri i → i < length tri / 3 → Among (length xyz / 3) f
+unfolding face_at
+corners_there {tri} {xyz} f i s e h =
+    let whole-threes = s.faces in
+    let corner : (i : ℕ) → i < length tri → get_or tri i 0 < length xyz / 3 = below_at (length xyz / 3) tri s.named in
+    rw e (record { c0 = corner (3 * i) (omega arith); c1 = corner (3 * i + 1) (omega arith); c2 = corner (3 * i + 2) (omega arith) })
 
 -- each entry of the map names a face or none
 pub entry_named : {tri map : List ℕ} {xyz : List Float} {w h : ℕ} → SoundMap tri xyz map w h → (p : ℕ) → p < w * h → names_face (length tri / 3) (get_or map p 0) ≡ true

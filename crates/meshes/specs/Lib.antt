@@ -3,5 +3,6 @@ pub mod Mesh
 pub mod View
 pub mod Sums
 pub mod Sound
+pub mod Answer
 -- proved of the definitions above
 pub mod Laws

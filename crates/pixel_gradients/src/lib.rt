@@ -8,7 +8,7 @@ ghost use Rattle.geometry.specs.Vector.{weights};
 ghost use Rattle.rays.specs.Answer as ofRays;
 ghost use Rattle.rays_bwd.specs.Answer.{gradients_of};
 ghost use Rattle.pixel_rays.specs.Answer.{face_of};
-ghost use Rattle.pixel_rays.specs.Laws.{Among};
+ghost use Rattle.meshes.specs.Mesh.{Among};
 ghost use Rattle.vertex_values.specs.Pass.{vertices};
 ghost use Rattle.pixel_gradients.specs.Gather.{gathered};
 ghost use Rattle.pixel_gradients.specs.Gradients.{incoming_at, gradients_at};

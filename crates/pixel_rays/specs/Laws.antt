@@ -7,7 +7,7 @@ use Rattle.questions.specs.Laws.{below_at, face_below}
 use Rattle.pixels.specs.Laws.{row-at, column-at}
 use Rattle.rays.specs.Space.{Ray}
 use Rattle.rays.specs.Pixel.{pixel_ray, ray_at, column_at, row_at}
-use Rattle.meshes.specs.Mesh.{Face, face_at}
+use Rattle.meshes.specs.Mesh.{Face, face_at, Among}
 use Rattle.meshes.specs.View.{named, view_of}
 use Rattle.meshes.specs.Sound.{SoundMesh}
 use Rattle.meshes.specs.Laws.{entry_read, named_some}
@@ -26,12 +26,6 @@ pixel-seen w h m tri map iy ix F inside below ex ey =
     ap₂ (λ (entry : ℕ). F (named tri entry)) (entry_read map (iy * w + ix) below) (ap₂ (ray_at m) ex ey ∙ sym (ray-of-pixel w h m iy ix inside))
 
 -- ---- the face that an entry names
-
--- its corners are among n vertices
-pub record Among (n : ℕ) (f : Face) : Type 0 where
-  pub c0 : f.v0 < n
-  pub c1 : f.v1 < n
-  pub c2 : f.v2 < n
 
 pub named-face : (tri : List ℕ) (x : ℕ) (f : Face) → (x ≡ empty → ⊥) → f ≡ face_at tri x → named tri x ≡ some f
 named-face tri x f other e = named_some tri x other ∙ ap some (sym e)

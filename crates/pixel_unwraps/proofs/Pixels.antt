@@ -19,7 +19,8 @@ use Rattle.meshes.specs.Sound.{SoundMap}
 use Rattle.pixels.specs.Pixel.{centre_of}
 use Rattle.pixels.specs.Edge.{Axis, axis, hedge, vedge, Edge, edge_from, edge_at, edge_count}
 use Rattle.pixels.specs.Laws.{Walked}
-use Rattle.inside.specs.Inside.{all_inside, contains, project_face}
+use Rattle.inside.specs.Inside.{all_inside, contains}
+use Rattle.meshes.specs.Mesh.{project_face}
 use Rattle.inside.specs.Steps.{all_project}
 use Rattle.pairs.specs.Pairs.{EdgeView, edge_view, first_of, second_of, equal_entries, both_answered}
 use Rattle.pairs.specs.Steps.{Within}

@@ -6,7 +6,8 @@ use Rattle.meshes.specs.Mesh.{Face}
 use Rattle.meshes.specs.View.{named, entry_at}
 use Rattle.pixels.specs.Pixel.{pixel, number_in, centre_of}
 use Rattle.pixels.specs.Edge.{Edge, axis, edge_from}
-use Rattle.inside.specs.Inside.{project_face, present}
+use Rattle.inside.specs.Inside.{present}
+use Rattle.meshes.specs.Mesh.{project_face}
 use Rattle.pairs.specs.Pairs.{first_of, second_of}
 use Rattle.tris.specs.Weights.{world_in}
 

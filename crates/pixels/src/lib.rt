@@ -1,13 +1,75 @@
-// Pixels: whole numbers as floats, centres, and the next place of a walk row by row. No function here is a public call.
+// Pixels: the size of an image, whole numbers as floats, centres, and the pairs of neighbouring pixels along an axis. No function here is a public call.
 #![tactic(auto)]
 
 ghost use Rattle.std.specs.Prelude.{◌≡◌, ◌+◌, ◌*◌, ◌<◌, ◌≤◌};
+ghost use Rattle.questions.specs.Laws.{Sized};
 ghost use Rattle.geometry.specs.Answer.{point2};
 ghost use Rattle.pixels.specs.Pixel as spec;
-ghost use Rattle.pixels.specs.Edge.{axis, edge_count};
-ghost use Rattle.pixels.specs.Laws.{Follows};
+ghost use Rattle.pixels.specs.Edge as edge;
 
 use geometry::Vec2;
+
+// The width and height of an image, once question 1 is answered yes.
+#[derive(Clone, Copy)]
+pub struct ImageSize {
+    pub w: usize,
+    pub h: usize,
+    pub ghost sized: { Sized 1 w h },
+}
+
+impl ImageSize {
+    // How many pixels there are.
+    #[tactic(auto, using(questions::specs::Laws::area))]
+    pub fn pixels(self) -> usize
+        ensures count { result ≡ self.w * self.h }
+        ensures bound { result ≤ 16777216 }
+    {
+        self.w * self.h
+    }
+
+    // The number of a pixel.
+    #[tactic(auto, using(crate::specs::Laws::number_below, questions::specs::Laws::area))]
+    pub fn number(self, p: Pixel) -> usize
+        requires in_row { p.x < self.w }
+        requires in_column { p.y < self.h }
+        ensures number { result ≡ p.y * self.w + p.x }
+        ensures bound { result < self.w * self.h }
+    {
+        p.y * self.w + p.x
+    }
+
+    // How many pairs of neighbours there are along an axis.
+    #[tactic(auto, using(crate::specs::Laws::edges_few))]
+    pub fn edge_count(self, axis: Axis) -> usize
+        ensures { result ≡ edge.edge_count (edge.axis axis.right axis.down) self.w self.h }
+    {
+        (self.h - axis.down) * (self.w - axis.right)
+    }
+}
+
+// A column and a row.
+#[derive(Clone, Copy)]
+pub struct Pixel {
+    pub x: usize,
+    pub y: usize,
+}
+
+// The way from a pair's first pixel to its second: so many columns to the right, so many rows down, and at most one.
+#[derive(Clone, Copy)]
+pub struct Axis {
+    pub right: usize,
+    pub down: usize,
+    pub ghost right_most: { right ≤ 1 },
+    pub ghost down_most: { down ≤ 1 },
+}
+
+impl Axis {
+    // Pairs that lie one above the other.
+    pub const HEDGE: Axis = Axis { right: 0, down: 1 };
+
+    // Pairs that lie side by side.
+    pub const VEDGE: Axis = Axis { right: 1, down: 0 };
+}
 
 // n as f32, of a column, row or size.
 pub fn as_float(n: usize) -> f32
@@ -18,6 +80,7 @@ pub fn as_float(n: usize) -> f32
 }
 
 // The centre of column or row i.
+#[tactic(auto, unfolding(crate::specs::Pixel::centre))]
 pub fn centre(i: usize) -> f32
     requires { i ≤ 4096 }
     ensures { result ≡ spec.centre i }
@@ -25,49 +88,15 @@ pub fn centre(i: usize) -> f32
     as_float(i) + 0.5
 }
 
-// The centre of the pixel (x, y).
-pub fn centre_of(x: usize, y: usize) -> Vec2
-    requires { (x ≤ 4096) × (y ≤ 4096) }
-    ensures { point2 result ≡ spec.centre_of (spec.pixel x y) }
+// The centre of a pixel.
+#[tactic(auto, unfolding(crate::specs::Pixel::centre_of))]
+pub fn centre_of(p: Pixel) -> Vec2
+    requires column { p.x ≤ 4096 }
+    requires row { p.y ≤ 4096 }
+    ensures { point2 result ≡ spec.centre_of (spec.pixel p.x p.y) }
 {
     Vec2 {
-        x: centre(x),
-        y: centre(y),
+        x: centre(p.x),
+        y: centre(p.y),
     }
-}
-
-// The number of the pixel (x, y).
-pub fn number(img_w: usize, img_h: usize, x: usize, y: usize) -> usize
-    requires x_lt_img_w { (x < img_w) × (y < img_h) }
-    requires img_w_bound { (img_w ≤ 4096) × (img_h ≤ 4096) }
-    ensures { (result ≡ y * img_w + x) × (result < img_w * img_h) }
-{
-    y * img_w + x
-}
-
-// How many pairs (right, down) apart an image has.
-pub fn edge_count(img_w: usize, img_h: usize, right: usize, down: usize) -> usize
-    requires img_w_bound { (img_w ≤ 4096) × (img_h ≤ 4096) }
-    requires right_le_img_w { (right ≤ img_w) × (down ≤ img_h) }
-    ensures { result ≡ edge_count (axis right down) img_w img_h }
-{
-    (img_h - down) * (img_w - right)
-}
-
-// A column and a row.
-#[derive(Clone, Copy)]
-pub struct Place {
-    pub x: usize,
-    pub y: usize,
-}
-
-// The place after (x, y), in rows of `columns`.
-pub fn next(x: usize, y: usize, columns: usize) -> Place
-    requires { (x < columns) × (y < 4096) }
-    ensures { Follows columns x y result.x result.y }
-{
-    if x + 1 < columns {
-        return Place { x: x + 1, y };
-    }
-    Place { x: 0, y: y + 1 }
 }

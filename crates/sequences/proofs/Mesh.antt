@@ -23,7 +23,7 @@ below : ℕ → Face → Bool
 below n f = ltb f.v0 n && (ltb f.v1 n && ltb f.v2 n)
 
 flat_cons : (n : ℕ) (f : Face) (fs : List Face) → all_below n (flat (f ∷ fs)) ≡ below n f && all_below n (flat fs)
-unfolding flat every below
+unfolding flat below
 flat_cons n f fs = go (ltb f.v0 n) (ltb f.v1 n) (ltb f.v2 n) (all_below n (flat fs))
   where
     go : (a b c d : Bool) → a && (b && (c && d)) ≡ (a && (b && c)) && d
@@ -45,7 +45,7 @@ kept_below n keep k (f ∷ fs) e = go (keep k) (kept_below n keep (suc k) fs)
     go false ih = ih parts.1
 
 append_below : (n : ℕ) (xs ys : List Face) → all_below n (flat (xs ++ ys)) ≡ true → (all_below n (flat xs) ≡ true) × (all_below n (flat ys) ≡ true)
-unfolding flat every
+unfolding flat
 append_below n [] ys e = (refl, e)
 append_below n (x ∷ xs) ys e =
     let parts = both (below n x) (all_below n (flat (xs ++ ys))) (sym (flat_cons n x (xs ++ ys)) ∙ e) in

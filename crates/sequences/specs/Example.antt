@@ -79,7 +79,7 @@ in_exchanged_t = centres (λ a b c. a ∷ c ∷ b ∷ [])
 
 -- the faces `tri` drawn from number 0, with that facing
 unfoldable pub faced : ℕ → Layer → List ℕ → List Float → Float → Float → Outcome Layer
-unfolding first_no sizes groups numbers every exact renamed offered pick exceeds tabulate numbered weights_at weight_of all_weights any.brought faces_of vertex_at cross2 areas total over_total blend row over weighed weighed_all with_sum weighed_with_sum corner_weights divided project scored whole behind any_behind corners_pieces projected_pieces pieces on_screen screened centre centre_of lower upper least greatest spans between in_closed_box finite_in_pixels scans dropped kept counts weighed_depth depth_at candidate face_pieces piece_brings pieces_bring brings brought painted drawn draw_code facing_of draws add sub mul div neg lt le eq of_bits of_int
+unfolding first_no sizes groups numbers exact renamed offered pick exceeds tabulate numbered weights_at weight_of all_weights any.brought faces_of vertex_at cross2 areas total over_total blend row over weighed weighed_all with_sum weighed_with_sum corner_weights divided project scored whole behind any_behind corners_pieces projected_pieces pieces on_screen screened centre centre_of lower upper least greatest spans between in_closed_box finite_in_pixels scans dropped kept counts weighed_depth depth_at candidate face_pieces piece_brings pieces_bring brings brought painted drawn draw_code facing_of draws add sub mul div neg lt le eq of_bits of_int
 faced facing l tri xyz m11 m15 = draws l tri xyz 2 2 (matrix m11 m15) 0 facing
 
 -- all of them

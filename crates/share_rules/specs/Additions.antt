@@ -4,7 +4,7 @@ use Rattle.std.specs.Prelude.{Float}
 use Rattle.meshes.specs.Mesh.{corners_at}
 use Rattle.meshes.specs.Sums.{Addition}
 use Rattle.pixels.specs.Edge.{Axis, Edge}
-use Rattle.inside.specs.Inside.{project_face}
+use Rattle.meshes.specs.Mesh.{project_face}
 use Rattle.pairs.specs.Pairs.{EdgeView, first_of, second_of}
 use Rattle.pairs.specs.Gradient.{PixelValues, dldr}
 use Rattle.tris.specs.Weights.{world_in}

@@ -5,7 +5,8 @@ use Rattle.geometry.specs.Vector.{Vec2, Vec3, Projected, Triangle}
 use Rattle.meshes.specs.Mesh.{Face}
 use Rattle.pixels.specs.Pixel.{centre_of}
 use Rattle.pixels.specs.Edge.{Axis, Edge}
-use Rattle.inside.specs.Inside.{all_inside, contains, project_face}
+use Rattle.inside.specs.Inside.{all_inside, contains}
+use Rattle.meshes.specs.Mesh.{project_face}
 use Rattle.pairs.specs.Pairs.{EdgeView, first_of, second_of, equal_entries}
 use Rattle.tris.specs.Tri.{unormal}
 use Rattle.crossings.specs.Crossing.{along, skipped, coefficient0, coefficient1, g_pix}

@@ -28,7 +28,8 @@ use Rattle.image_bwd.specs.Summed.{xyz_at, val_at, summed_over}
 use Rattle.values_bwd.specs.Laws as values-laws
 use Rattle.pixels.specs.Pixel.{centre_of}
 use Rattle.pixels.specs.Edge.{Axis, hedge, vedge, Edge}
-use Rattle.inside.specs.Inside.{all_inside, contains, project_face}
+use Rattle.inside.specs.Inside.{all_inside, contains}
+use Rattle.meshes.specs.Mesh.{project_face}
 use Rattle.pairs.specs.Pairs.{edge_view, first_of, second_of}
 use Rattle.pairs.specs.Gradient.{PixelValues, dldr}
 use Rattle.tris.specs.Tri.{point_on, unormal}

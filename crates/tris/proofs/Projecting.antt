@@ -11,7 +11,8 @@ use Rattle.geometry.specs.Formula.{row, over}
 use Rattle.geometry.specs.Leaf.{entries, project, divided}
 use Rattle.meshes.specs.Mesh.{Face, vertex_at, corners_at}
 use Rattle.jacobians.specs.Formula.{project_untested}
-use Rattle.inside.specs.Inside.{all_three, present, project_face, projects}
+use Rattle.inside.specs.Inside.{present, projects}
+use Rattle.meshes.specs.Mesh.{all_three, project_face}
 use Rattle.inside.specs.Laws.{all_three_lem}
 
 projected_is : (m : List Float) (x : Vec3 Float) → present (project m x) ≡ true → project m x ≡ some (project_untested floats (entries m) x)

@@ -7,7 +7,8 @@ use Rattle.questions.specs.Laws.{face_below}
 use Rattle.geometry.specs.Vector.{Vec2, Vec3, Projected, Triangle}
 use Rattle.meshes.specs.Mesh.{Face}
 use Rattle.meshes.specs.Laws.{named_some}
-use Rattle.inside.specs.Inside.{all_inside, contains, weights_in, project_face, projects}
+use Rattle.inside.specs.Inside.{all_inside, contains, weights_in, projects}
+use Rattle.meshes.specs.Mesh.{project_face}
 use Rattle.tris.specs.Weights.{world_in}
 use Rattle.tris.specs.Tri.{Projects, Shows, TriOf}
 

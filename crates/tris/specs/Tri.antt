@@ -8,7 +8,8 @@ use Rattle.questions.specs.Questions.{names_face}
 use Rattle.meshes.specs.Mesh.{Face, face_at, corners_at}
 use Rattle.meshes.specs.View.{named}
 use Rattle.normals.specs.Normal.{unit_normal}
-use Rattle.inside.specs.Inside.{project_face, projects}
+use Rattle.inside.specs.Inside.{projects}
+use Rattle.meshes.specs.Mesh.{project_face}
 
 -- the point that the weights b make of the face's own corners
 unfoldable pub point_on : Triangle (Vec3 Float) → Weights Float → Vec3 Float

@@ -7,7 +7,8 @@ use mathlib.Core.List.{List, [], ◌∷◌}
 use lib.Ieee.{Float}
 use Rattle.geometry.specs.Vector.{Vec2, Vec3, Projected, Triangle}
 use Rattle.meshes.specs.Mesh.{Face}
-use Rattle.inside.specs.Inside.{all_inside, contains, project_face, present}
+use Rattle.inside.specs.Inside.{all_inside, contains, present}
+use Rattle.meshes.specs.Mesh.{project_face}
 use Rattle.tris.specs.Weights.{world_in}
 use Rattle.tris.specs.Tri.{unormal, TriOf}
 use Rattle.tris.specs.Laws.{world_is}

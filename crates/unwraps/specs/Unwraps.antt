@@ -2,7 +2,8 @@
 use Rattle.std.specs.Prelude.{ℕ, Bool, true, ◌&&◌, List, [], ◌∷◌, Float}
 use Rattle.lists.specs.Lists.{span, every}
 use Rattle.pixels.specs.Edge.{Axis, hedge, vedge, Edge, edge_count, edge_at}
-use Rattle.inside.specs.Inside.{project_face, present}
+use Rattle.inside.specs.Inside.{present}
+use Rattle.meshes.specs.Mesh.{project_face}
 use Rattle.pairs.specs.Pairs.{EdgeView}
 use Rattle.tris.specs.Weights.{world_in}
 use Rattle.share_rules.specs.Shares.{Share, shares_at}

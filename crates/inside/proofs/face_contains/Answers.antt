@@ -1,6 +1,7 @@
 use mathlib.Core.Path.{◌∙◌, ap}
 use Rattle.meshes.specs.Mesh.{face_at}
-use Rattle.inside.specs.Inside.{all_inside, all_three, project_face, weights_in, contains}
+use Rattle.inside.specs.Inside.{all_inside, weights_in, contains}
+use Rattle.meshes.specs.Mesh.{all_three, project_face}
 use Rattle.meshes.specs.Laws.{found}
 use Rattle.inside.proofs.face_contains.Goals as goal
 

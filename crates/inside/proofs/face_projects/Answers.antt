@@ -1,6 +1,7 @@
 use Rattle.lists.specs.Laws.Tests.{said_no, said_yes}
 use Rattle.meshes.specs.Mesh.{face_at}
-use Rattle.inside.specs.Inside.{project_face, projects}
+use Rattle.inside.specs.Inside.{projects}
+use Rattle.meshes.specs.Mesh.{project_face}
 use Rattle.inside.specs.Laws.{all_three_lem}
 use Rattle.inside.proofs.face_projects.Goals as goal
 

@@ -10,21 +10,18 @@ use Rattle.lists.specs.Laws.Tables.{length-tabulate, get_or-tabulate, tabulate-a
 
 -- what every number of a list passes, the number at i passes
 pub every-at : (test : ℕ → Bool) (xs : List ℕ) → every test xs ≡ true → (i : ℕ) → i < length xs → test (get_or xs i 0) ≡ true
-unfolding every
 every-at test [] e i h = absurd (not-suc-le-zero h)
 every-at test (x ∷ xs) e zero h = (both (test x) _ e).0
 every-at test (x ∷ xs) e (suc i) h = every-at test xs (both (test x) _ e).1 i (le_of_suc-le-suc h)
 
 -- and so does what a read past the end gives, if its default passes
 pub every_any : (test : ℕ → Bool) (d : ℕ) → test d ≡ true → (xs : List ℕ) → every test xs ≡ true → (i : ℕ) → test (get_or xs i d) ≡ true
-unfolding every
 every_any test d z [] e i = z
 every_any test d z (x ∷ xs) e zero = (both (test x) _ e).0
 every_any test d z (x ∷ xs) e (suc i) = every_any test d z xs (both (test x) _ e).1 i
 
 -- what each number of a list passes, all do
 pub every_of : (test : ℕ → Bool) (d : ℕ) (xs : List ℕ) → ((i : ℕ) → i < length xs → test (get_or xs i d) ≡ true) → every test xs ≡ true
-unfolding every
 every_of test d [] h = refl
 every_of test d (x ∷ xs) h = rw (h 0 (omega arith)) (every_of test d xs (λ i l. h (suc i) (omega arith)))
 
@@ -32,7 +29,6 @@ every_of test d (x ∷ xs) h = rw (h 0 (omega arith)) (every_of test d xs (λ i 
 
 module _ (test : ℕ → Bool) (xs : List ℕ) (i : ℕ) where
   every-from : i < length xs → every test (drop i xs) ≡ test (get_or xs i 0) && every test (drop (suc i) xs)
-  unfolding every
   every-from h = rw (drop-cons xs i 0 h)
 
   pub more : (i ≤ length xs) × (every test xs ≡ every test (drop i xs)) → i < length xs → test (get_or xs i 0) ≡ true
@@ -43,7 +39,6 @@ module _ (test : ℕ → Bool) (xs : List ℕ) (i : ℕ) where
   stopped p h t = sym (p ∙ every-from h ∙ rw t)
 
   pub ended : every test xs ≡ every test (drop i xs) → length xs ≤ i → true ≡ every test xs
-  unfolding every
   ended p h = sym (p ∙ rw (drop_of_length-le xs h))
 
   -- the same, of a loop that gathers the answers and goes on after a no
@@ -52,7 +47,6 @@ module _ (test : ℕ → Bool) (xs : List ℕ) (i : ℕ) where
   gathered all p h = p ∙ rw (every-from h, add-one) (sym (and_assoc all (test (get_or xs i 0)) (every test (drop (suc i) xs))))
 
   pub gathered_all : (all : Bool) → every test xs ≡ all && every test (drop i xs) → length xs ≤ i → all ≡ every test xs
-  unfolding every
   gathered_all all p h = sym (p ∙ rw (drop_of_length-le xs h) (and-true all))
 
 -- ---- a loop over numbers in a row
@@ -63,16 +57,15 @@ row_below w h iy l = let m : (iy + 1) * w ≤ h * w = mul-le-mul_right w (omega 
 
 module _ (t : ℕ → Bool) where
   every_append : (xs ys : List ℕ) → every t (xs ++ ys) ≡ every t xs && every t ys
-  unfolding every
   every_append [] ys = refl
   every_append (x ∷ xs) ys = ap (λ (b : Bool). t x && b) (every_append xs ys) ∙ sym (and_assoc (t x) (every t xs) (every t ys))
 
   pub every_one : (p : ℕ) → every t (span p 1) ≡ t p
-  unfolding every tabulate
+  unfolding tabulate
   every_one p = and-true (t p)
 
   pub every_none : (a : ℕ) → every t (span a 0) ≡ true
-  unfolding every tabulate
+  unfolding tabulate
   every_none a = refl
 
   every-add : (a n m : ℕ) → every t (span a (n + m)) ≡ every t (span a n) && every t (span (a + n) m)

@@ -45,30 +45,30 @@ same_bodies = record { empties = empties; bodies = bodies }
 
 -- the theorem at these, whatever the two pictures held
 pub told_alike : labelling one_layer.pix2tri one_table 2 2 (four 5) ≡ labelling another_layer.pix2tri another_table 2 2 (four 9)
-unfolding every first_no sizes bounded exact names_face label body_of labelled label_code labelling
+unfolding first_no sizes bounded exact names_face label body_of labelled label_code labelling
 told_alike = screen.same_picture 2 2 one_layer another_layer one_table another_table (four 5) (four 9) refl refl same_bodies
 
 pub told : labelling one_layer.pix2tri one_table 2 2 (four 5) ≡ outcome 0 (7 ∷ empty ∷ 7 ∷ 8 ∷ [])
-unfolding every first_no sizes bounded exact names_face label body_of labelled label_code labelling
+unfolding first_no sizes bounded exact names_face label body_of labelled label_code labelling
 told = refl
 
 -- a body may have the number that an empty pixel shows
 pub body_shown_as_empty : labelling (four 0) (empty ∷ []) 2 2 (four 5) ≡ outcome 0 (four empty)
-unfolding every first_no sizes bounded exact names_face label body_of labelled label_code labelling
+unfolding first_no sizes bounded exact names_face label body_of labelled label_code labelling
 body_shown_as_empty = refl
 
 -- no faces at all; and a face that the table has no body for
 pub no_bodies : labelling (four empty) [] 2 2 (four 5) ≡ outcome 0 (four empty)
-unfolding every first_no sizes bounded exact names_face label body_of labelled label_code labelling
+unfolding first_no sizes bounded exact names_face label body_of labelled label_code labelling
 no_bodies = refl
 
 pub refused : labelling (four 1) (7 ∷ []) 2 2 (four 5) ≡ outcome 7 (four 5)
-unfolding every first_no sizes bounded exact names_face label body_of labelled label_code labelling
+unfolding first_no sizes bounded exact names_face label body_of labelled label_code labelling
 refused = refl
 
 -- refused with any other table of its length, and whatever the picture holds
 pub refused_alike : (labelling (four 1) (9 ∷ []) 2 2 (four 6)).code ≡ 7
-unfolding every first_no sizes bounded exact names_face label body_of labelled label_code labelling
+unfolding first_no sizes bounded exact names_face label body_of labelled label_code labelling
 refused_alike = screen.same_code 2 2 (layer (four 1) (four half) in_t) (layer (four 1) (four quarter) in_t) (9 ∷ []) (7 ∷ []) (four 6) (four 5) refl refl refl
 
 -- demand 3's mesh of four faces, one of them taken out, drawn whole and in runs: the same picture of body numbers

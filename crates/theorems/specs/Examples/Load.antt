@@ -17,7 +17,7 @@ use Rattle.sequences.specs.Example.{zero, one, quarter, matrix, corners}
 
 -- the faces over T(0.25)'s vertices and a fourth, whose first coordinate is infinite
 unfoldable pub loaded : List ℕ → Outcome Load
-unfolding first_no sizes groups every tabulate sum_of sum count row over divided project faces_of vertex_at centre scored whole corners_pieces projected_pieces pieces on_screen screened lower upper least greatest spans between in_closed_box finite_in_pixels scans face_pieces charge piece_pixels face_pixels load_of load_code loading add sub mul div neg lt le eq of_bits of_int
+unfolding first_no sizes groups tabulate sum_of sum count row over divided project faces_of vertex_at centre scored whole corners_pieces projected_pieces pieces on_screen screened lower upper least greatest spans between in_closed_box finite_in_pixels scans face_pieces charge piece_pixels face_pixels load_of load_code loading add sub mul div neg lt le eq of_bits of_int
 loaded tri = loading tri (corners quarter ++ inf false ∷ zero ∷ zero ∷ []) 2 2 (matrix zero one)
 
 pub not_finite : loaded (0 ∷ 1 ∷ 2 ∷ 0 ∷ 1 ∷ 3 ∷ []) ≡ outcome 0 (load 2 4)

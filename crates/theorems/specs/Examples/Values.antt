@@ -24,7 +24,7 @@ word n = of_bits binary32 n
 
 -- the values of the map, 2 × 2, with vertex values 0, 8, 16
 unfoldable pub showing : List ℕ → List Float → Outcome (List Float)
-unfolding first_no sizes channels groups exact every names_face blend row over divided project centre minus3 dot3 cross3 along3 across down normal distance hit weight weights_at weights_on plane_weights ray_between ray_at column_at row_at pixel_ray face_at vertex_at named tabulate corners_at ray_of answered rays_answer exact_counts pass_code blend_of value_at value_in interpolated interpolate_code interpolating add sub mul div neg eq of_bits of_int
+unfolding first_no sizes channels groups exact names_face blend row over divided project centre minus3 dot3 cross3 along3 across down normal distance hit weight weights_at weights_on plane_weights ray_between ray_at column_at row_at pixel_ray face_at vertex_at named tabulate corners_at ray_of answered rays_answer exact_counts pass_code blend_of value_at value_in interpolated interpolate_code interpolating add sub mul div neg eq of_bits of_int
 showing map old = interpolating (image 2 2 (matrix zero one)) (vertices (corners quarter) 1 (zero ∷ word 0x4100_0000 ∷ word 0x4180_0000 ∷ [])) (0 ∷ 1 ∷ 2 ∷ []) map old
 
 -- An empty pixel keeps its value bits.
