@@ -1,7 +1,6 @@
 -- What the code's structs stand for.
 use Rattle.std.specs.Prelude.{Float}
-use Rattle.geometry.specs.Answer.{point3}
-use Rattle.rays.specs.Answer.{corners_of, weights_of}
+use Rattle.geometry.specs.Answer.{point3, corners_of, weights_of}
 use Rattle.rays_bwd.specs.Backward as Backward
 use Rattle.rays_bwd.specs.Backward.{frame, gradients}
 use Rattle.rays_bwd.specs.declared.Frame as code_f

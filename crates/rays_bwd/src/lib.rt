@@ -4,14 +4,14 @@
 
 ghost use Rattle.std.specs.Prelude.{◌≡◌};
 ghost use Rattle.geometry.specs.Arith.{floats};
-ghost use Rattle.geometry.specs.Answer.{point3};
+ghost use Rattle.geometry.specs.Answer.{point3, corners_of, weights_of};
 ghost use Rattle.rays.specs.Space as space;
-ghost use Rattle.rays.specs.Answer.{ray_of, corners_of, weights_of};
+ghost use Rattle.rays.specs.Answer.{ray_of};
 ghost use Rattle.rays_bwd.specs.Backward as backward;
 ghost use Rattle.rays_bwd.specs.Answer.{frame_from, gradients_of};
 
-use geometry::Vec3;
-use rays::{Corners, Ray, Weights};
+use geometry::{Triangle, Vec3, Weights};
+use rays::Ray;
 
 // e1×e2, e2×d, d×e1 and D of the backward formula.
 #[derive(Clone, Copy)]
@@ -26,29 +26,27 @@ pub struct Frame {
 #[derive(Clone, Copy)]
 pub struct Gradients {
     pub bc: Weights,
-    pub to: Corners,
+    pub to: Triangle<Vec3>,
 }
 
+#[tactic(auto, unfolding(crate::specs::Backward::framed))]
 fn framed(d: Vec3, e1: Vec3, e2: Vec3) -> Frame
     ensures { frame_from result ≡ backward.framed floats (point3 d) (point3 e1) (point3 e2) }
 {
-    let n = rays::cross3(e1, e2);
+    let e1e2 = rays::cross3(e1, e2);
     Frame {
-        e1e2: n,
+        e1e2,
         e2d: rays::cross3(e2, d),
         de1: rays::cross3(d, e1),
-        det: rays::dot3(d, n),
+        det: rays::dot3(d, e1e2),
     }
 }
 
-fn frame_of(p: Corners, r: Ray) -> Frame
+#[tactic(auto, unfolding(crate::specs::Backward::frame_of))]
+fn frame_of(p: Triangle<Vec3>, r: Ray) -> Frame
     ensures { frame_from result ≡ backward.frame_of floats (corners_of p) (ray_of r) }
 {
-    let p0 = p.p0;
-    let p1 = p.p1;
-    let p2 = p.p2;
-    let d = r.dir;
-    framed(d, rays::minus3(p1, p0), rays::minus3(p2, p0))
+    framed(r.dir, rays::minus3(p.p1, p.p0), rays::minus3(p.p2, p.p0))
 }
 
 // u or v: f is the product that it is made of.
@@ -58,6 +56,7 @@ fn meets(f: Vec3, det: f32, s: Vec3) -> f32
     -rays::dot3(s, f) / det
 }
 
+#[tactic(auto, unfolding(crate::specs::Backward::weighted))]
 fn weighted(u: f32, v: f32) -> Weights
     ensures { weights_of result ≡ backward.weighted floats u v }
 {
@@ -68,55 +67,49 @@ fn weighted(u: f32, v: f32) -> Weights
     }
 }
 
+#[tactic(auto, unfolding(crate::specs::Backward::gradient_on))]
 fn gradient_on(dt: f32, du: f32, dv: f32, det: f32, e1e2: f32, e2d: f32, de1: f32) -> f32
     ensures { result ≡ backward.gradient_on floats dt du dv det e1e2 e2d de1 }
 {
     (dt * e1e2 - du * e2d - dv * de1) / det
 }
 
+#[tactic(auto, unfolding(crate::specs::Backward::gradient))]
 fn gradient(f: Frame, dt: f32, du: f32, dv: f32) -> Vec3
     ensures { point3 result ≡ backward.gradient floats (frame_from f) dt du dv }
 {
-    let a = f.e1e2;
-    let b = f.e2d;
-    let c = f.de1;
     Vec3 {
-        x: gradient_on(dt, du, dv, f.det, a.x, b.x, c.x),
-        y: gradient_on(dt, du, dv, f.det, a.y, b.y, c.y),
-        z: gradient_on(dt, du, dv, f.det, a.z, b.z, c.z),
+        x: gradient_on(dt, du, dv, f.det, f.e1e2.x, f.e2d.x, f.de1.x),
+        y: gradient_on(dt, du, dv, f.det, f.e1e2.y, f.e2d.y, f.de1.y),
+        z: gradient_on(dt, du, dv, f.det, f.e1e2.z, f.e2d.z, f.de1.z),
     }
 }
 
-fn shared(b: Weights, g: Vec3) -> Gradients
-    ensures { gradients_of result ≡ backward.shared floats (weights_of b) (point3 g) }
+#[tactic(auto, unfolding(crate::specs::Backward::shared, crate::specs::Backward::shares))]
+fn shared(bc: Weights, g: Vec3) -> Gradients
+    ensures { gradients_of result ≡ backward.shared floats (weights_of bc) (point3 g) }
 {
-    let to = Corners {
-        p0: rays::scaled3(b.b0, g),
-        p1: rays::scaled3(b.b1, g),
-        p2: rays::scaled3(b.b2, g),
+    let to = Triangle {
+        p0: rays::scaled3(bc.b0, g),
+        p1: rays::scaled3(bc.b1, g),
+        p2: rays::scaled3(bc.b2, g),
     };
-    Gradients { bc: b, to: to }
+    Gradients { bc, to }
 }
 
+#[tactic(auto, unfolding(crate::specs::Backward::backward_on, crate::specs::Backward::meets_u, crate::specs::Backward::meets_v))]
 fn backward_on(f: Frame, s: Vec3, dt: f32, du: f32, dv: f32) -> Gradients
     ensures { gradients_of result ≡ backward.backward_on floats (frame_from f) (point3 s) dt du dv }
 {
-    let e2d = f.e2d;
-    let de1 = f.de1;
-    let u = meets(e2d, f.det, s);
-    let v = meets(de1, f.det, s);
-    let b = weighted(u, v);
-    let g = gradient(f, dt, du, dv);
-    shared(b, g)
+    let u = meets(f.e2d, f.det, s);
+    let v = meets(f.de1, f.det, s);
+    shared(weighted(u, v), gradient(f, dt, du, dv))
 }
 
 // The corners' shares of the incoming gradients dt, du, dv of t, u and v.
-pub fn plane_backward(p: Corners, r: Ray, dt: f32, du: f32, dv: f32) -> Gradients
+#[tactic(auto, unfolding(crate::specs::Backward::plane_backward))]
+pub fn plane_backward(p: Triangle<Vec3>, r: Ray, dt: f32, du: f32, dv: f32) -> Gradients
     ensures { gradients_of result ≡ backward.plane_backward floats (corners_of p) (ray_of r) dt du dv }
 {
-    let p0 = p.p0;
-    let o = r.org;
-    let f = frame_of(p, r);
-    let s = rays::minus3(p0, o);
-    backward_on(f, s, dt, du, dv)
+    backward_on(frame_of(p, r), rays::minus3(p.p0, r.org), dt, du, dv)
 }
