@@ -1,6 +1,6 @@
 -- Tables of a function, numbers in a row, a test of each, those that pass one, and sums.
-use Rattle.std.specs.Prelude.{ℕ, zero, suc, ◌+◌, Bool, true, ◌&&◌, cond}
-use Rattle.std.specs.List.{list_all}
+use Rattle.std.specs.Prelude.{ℕ, zero, suc, ◌+◌, Bool, cond}
+use Rattle.std.specs.List as list
 use mathlib.Core.List.{List, [], ◌∷◌, map, sum}
 
 -- f at n numbers in a row, from p on
@@ -14,12 +14,11 @@ span a n = tabulate (λ i. i) a n
 
 -- whether every number of a list passes a test
 abbrev pub every : (ℕ → Bool) → List ℕ → Bool
-every = list_all
+every = list.list_all
 
 -- the entries of a list that pass a test, in order
-unfoldable pub filter : {A : Type 0} → (A → Bool) → List A → List A
-filter test [] = []
-filter test (x ∷ xs) = cond (test x) (x ∷ filter test xs) (filter test xs)
+abbrev pub filter : {A : Type 0} → (A → Bool) → List A → List A
+filter = list.filter
 
 -- f of each entry of a list, added up
 unfoldable pub sum_of : {A : Type 0} → (A → ℕ) → List A → ℕ

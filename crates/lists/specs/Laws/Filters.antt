@@ -46,7 +46,6 @@ count_number p n = go (ltb p n) refl
 
 module _ {A : Type 0} (test : A → Bool) where
   filter-append : (xs ys : List A) → filter test (xs ++ ys) ≡ filter test xs ++ filter test ys
-  unfolding filter
   filter-append [] ys = refl
   filter-append (x ∷ xs) ys = go (test x) (filter-append xs ys)
     where
@@ -56,7 +55,6 @@ module _ {A : Type 0} (test : A → Bool) where
 
   -- as many as pass
   pub length-filter : (xs : List A) → length (filter test xs) ≡ count test xs
-  unfolding filter
   length-filter [] = sym (count_none test)
   length-filter (x ∷ xs) = go (test x) (length-filter xs) ∙ sym (count-more test x xs)
     where
@@ -66,13 +64,13 @@ module _ {A : Type 0} (test : A → Bool) where
 
   -- what the turns bring, filtered turn by turn
   pub filter-flat_map : {B : Type 0} (f : B → List A) (xs : List B) → filter test (flat_map f xs) ≡ flat_map (λ x. filter test (f x)) xs
-  unfolding filter flat_map
+  unfolding flat_map
   filter-flat_map f [] = refl
   filter-flat_map f (x ∷ xs) = filter-append (f x) (flat_map f xs) ∙ ap (λ (t : List A). filter test (f x) ++ t) (filter-flat_map f xs)
 
   -- a table's entries that pass, one a turn
   pub filter-tabulate : (f : ℕ → A) (a n : ℕ) → filter test (tabulate f a n) ≡ flat_map (λ i. cond (test (f i)) (f i ∷ []) []) (span a n)
-  unfolding filter flat_map tabulate
+  unfolding flat_map tabulate
   filter-tabulate f a zero = refl
   filter-tabulate f a (suc n) = go (test (f a)) (filter-tabulate f (suc a) n)
     where
@@ -82,7 +80,6 @@ module _ {A : Type 0} (test : A → Bool) where
 
 -- a number that passes stands in the filtered list as often as before, any other never
 pub count-filter : (test : ℕ → Bool) (p : ℕ) (xs : List ℕ) → count (eqb p) (filter test xs) ≡ cond (test p) (count (eqb p) xs) 0
-unfolding filter
 count-filter test p [] = rw (count_none (eqb p)) (sym (same (test p)))
   where
     same : (b : Bool) → ◌≡◌ {A = ℕ} (cond b 0 0) 0

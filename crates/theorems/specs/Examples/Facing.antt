@@ -2,7 +2,7 @@
 -- drawn. Listed turned round, its sums count below 0.
 use Rattle.std.specs.Prelude.{◌≡◌, refl, Bool, true, false}
 use mathlib.Core.List.{[], ◌∷◌, flat_map}
-use Rattle.lists.specs.Lists.{tabulate, filter}
+use Rattle.lists.specs.Lists.{tabulate}
 use Rattle.questions.specs.Questions.{outcome}
 use Rattle.geometry.specs.Vector.{vec3, triangle}
 use Rattle.cells.specs.Layer.{Layer, layer}
@@ -30,9 +30,9 @@ abbrev scanned : Bool → Layer
 scanned turned = stopped_after 4 Front 2 2 (piece turned (triangle (vec3 minus_one minus_one quarter) (vec3 three minus_one quarter) (vec3 minus_one three quarter))) 7 blank
 
 pub listed_straight : scanned false ≡ blank
-unfolding faced filter flat_map tabulate with_weights down columnwise visits visited piece_cells stopped_after
+unfolding faced flat_map tabulate with_weights down columnwise visits visited piece_cells stopped_after
 listed_straight = refl
 
 pub listed_turned : scanned true ≡ layer (four 7) (four quarter) in_t
-unfolding faced filter flat_map tabulate with_weights down columnwise visits visited piece_cells stopped_after
+unfolding faced flat_map tabulate with_weights down columnwise visits visited piece_cells stopped_after
 listed_turned = refl

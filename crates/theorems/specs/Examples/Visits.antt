@@ -2,7 +2,7 @@
 use Rattle.std.specs.Prelude.{◌≡◌, refl, false}
 use mathlib.Core.List.{[], ◌∷◌, flat_map}
 use Rattle.std.specs.Float.Ieee.{of_bits, of_int, add, sub, mul, div, neg, lt, le, eq}
-use Rattle.lists.specs.Lists.{tabulate, filter}
+use Rattle.lists.specs.Lists.{tabulate}
 use Rattle.questions.specs.Questions.{empty}
 use Rattle.geometry.specs.Vector.{vec3, triangle}
 use Rattle.geometry.specs.Formula.{cross2, areas, total, over_total, blend}
@@ -23,10 +23,10 @@ abbrev piece : rule.Piece
 piece = rule.piece false (triangle (vec3 minus_one minus_one quarter) (vec3 three minus_one quarter) (vec3 minus_one three quarter))
 
 pub left_column_first : visits 2 2 (screened 2 2 piece.corners) ≡ 0 ∷ 2 ∷ 1 ∷ 3 ∷ []
-unfolding filter flat_map tabulate down columnwise visits centre on_screen screened lower upper least greatest spans between in_closed_box finite_in_pixels scans add sub mul neg lt le eq of_bits of_int
+unfolding flat_map tabulate down columnwise visits centre on_screen screened lower upper least greatest spans between in_closed_box finite_in_pixels scans add sub mul neg lt le eq of_bits of_int
 left_column_first = refl
 
 -- the piece as face 7
 pub after_two : stopped_after 2 All 2 2 piece 7 blank ≡ layer (7 ∷ empty ∷ 7 ∷ empty ∷ []) (quarter ∷ lowest ∷ quarter ∷ lowest ∷ []) (half ∷ eighth ∷ three_eighths ∷ zero ∷ zero ∷ zero ∷ three_quarters ∷ eighth ∷ eighth ∷ zero ∷ zero ∷ zero ∷ [])
-unfolding filter flat_map tabulate numbered weights_at with_weights renamed exceeds pick offered down columnwise visits visited piece_cells stopped_after piece_brings candidate depth_at counts weighed_depth kept dropped cross2 areas total over_total blend weighed weighed_all with_sum weighed_with_sum corner_weights centre centre_of on_screen screened lower upper least greatest spans between in_closed_box finite_in_pixels scans add sub mul div neg lt le eq of_bits of_int
+unfolding flat_map tabulate numbered weights_at with_weights renamed exceeds pick offered down columnwise visits visited piece_cells stopped_after piece_brings candidate depth_at counts weighed_depth kept dropped cross2 areas total over_total blend weighed weighed_all with_sum weighed_with_sum corner_weights centre centre_of on_screen screened lower upper least greatest spans between in_closed_box finite_in_pixels scans add sub mul div neg lt le eq of_bits of_int
 after_two = refl
