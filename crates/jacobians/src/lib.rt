@@ -20,61 +20,61 @@ pub struct Mat3 {
 }
 
 // The projected point and its divisor, which may be 0.
+#[tactic(auto, unfolding(crate::specs::Formula::project_untested, geometry::specs::Formula::over))]
 pub fn project_untested(m: &[f32; 16], x: Vec3) -> Projected
     ensures { projected_of result ≡ formula.project_untested floats (entries m.now) (point3 x) }
 {
-    let y0 = geometry::row(m, 0, x);
-    let y1 = geometry::row(m, 1, x);
-    let y2 = geometry::row(m, 2, x);
-    let y3 = geometry::row(m, 3, x);
-    Projected {
-        x: y0 / y3,
-        y: y1 / y3,
-        z: y2 / y3,
-        w: y3,
-    }
+    let w = geometry::row(m, 3, x);
+    let p = Vec3 {
+        x: geometry::row(m, 0, x) / w,
+        y: geometry::row(m, 1, x) / w,
+        z: geometry::row(m, 2, x) / w,
+    };
+    Projected { p, w }
 }
 
 // Entry 3k + r, of the projected point's coordinate r and its divisor.
-fn jacobian_entry(m: &[f32; 16], k: usize, r: usize, p: f32, y3: f32) -> f32
-    requires { (k < 3) × (r < 3) }
-    ensures { result ≡ formula.jacobian_entry floats (entries m.now) k r p y3 }
+#[tactic(auto, unfolding(crate::specs::Formula::jacobian_entry))]
+fn jacobian_entry(m: &[f32; 16], k: usize, r: usize, p: f32, w: f32) -> f32
+    requires column { k < 3 }
+    requires row { r < 3 }
+    ensures { result ≡ formula.jacobian_entry floats (entries m.now) k r p w }
 {
-    (m[4 * k + r] - p * m[4 * k + 3]) / y3
+    (m[4 * k + r] - p * m[4 * k + 3]) / w
 }
 
-fn jacobian_column(m: &[f32; 16], k: usize, p: Projected) -> Vec3
+#[tactic(auto, unfolding(crate::specs::Formula::jacobian_column))]
+fn jacobian_column(m: &[f32; 16], k: usize, at: Projected) -> Vec3
     requires { k < 3 }
-    ensures { point3 result ≡ formula.jacobian_column floats (entries m.now) k (projected_of p) }
+    ensures { point3 result ≡ formula.jacobian_column floats (entries m.now) k (projected_of at) }
 {
     Vec3 {
-        x: jacobian_entry(m, k, 0, p.x, p.w),
-        y: jacobian_entry(m, k, 1, p.y, p.w),
-        z: jacobian_entry(m, k, 2, p.z, p.w),
+        x: jacobian_entry(m, k, 0, at.p.x, at.w),
+        y: jacobian_entry(m, k, 1, at.p.y, at.w),
+        z: jacobian_entry(m, k, 2, at.p.z, at.w),
     }
 }
 
 // How the projection of x moves with x.
+#[tactic(auto, unfolding(crate::specs::Formula::jacobian, crate::specs::Formula::jacobian_at))]
 pub fn jacobian_transform(m: &[f32; 16], x: Vec3) -> Mat3
     ensures { matrix_of result ≡ formula.jacobian floats (entries m.now) (point3 x) }
 {
-    let p = project_untested(m, x);
+    let at = project_untested(m, x);
     Mat3 {
-        c0: jacobian_column(m, 0, p),
-        c1: jacobian_column(m, 1, p),
-        c2: jacobian_column(m, 2, p),
+        c0: jacobian_column(m, 0, at),
+        c1: jacobian_column(m, 1, at),
+        c2: jacobian_column(m, 2, at),
     }
 }
 
+#[tactic(auto, unfolding(crate::specs::Formula::mult_mat3))]
 pub fn mult_mat3_col_major(g: Vec3, j: Mat3) -> Vec3
     ensures { point3 result ≡ formula.mult_mat3 floats (point3 g) (matrix_of j) }
 {
-    let c0 = j.c0;
-    let c1 = j.c1;
-    let c2 = j.c2;
     Vec3 {
-        x: rays::dot3(c0, g),
-        y: rays::dot3(c1, g),
-        z: rays::dot3(c2, g),
+        x: rays::dot3(j.c0, g),
+        y: rays::dot3(j.c1, g),
+        z: rays::dot3(j.c2, g),
     }
 }

@@ -2,13 +2,13 @@
 #![tactic(auto)]
 
 ghost use Rattle.std.specs.Prelude.{◌≡◌};
-ghost use Rattle.geometry.specs.Vector.{triangle};
-ghost use Rattle.geometry.specs.Answer.{point3};
+ghost use Rattle.geometry.specs.Answer.{point3, corners_of};
 ghost use Rattle.normals.specs.Normal as normal;
 
-use geometry::Vec3;
+use geometry::{Triangle, Vec3};
 
 // n over the root of n·n.
+#[tactic(auto, unfolding(crate::specs::Normal::unit, crate::specs::Normal::over3))]
 fn unit(n: Vec3) -> Vec3
     ensures { point3 result ≡ normal.unit (point3 n) }
 {
@@ -20,8 +20,9 @@ fn unit(n: Vec3) -> Vec3
     }
 }
 
-pub fn unit_normal(p0: Vec3, p1: Vec3, p2: Vec3) -> Vec3
-    ensures { point3 result ≡ normal.unit_normal (triangle (point3 p0) (point3 p1) (point3 p2)) }
+#[tactic(auto, unfolding(crate::specs::Normal::unit_normal, rays::specs::Plane::normal))]
+pub fn unit_normal(p: Triangle<Vec3>) -> Vec3
+    ensures { point3 result ≡ normal.unit_normal (corners_of p) }
 {
-    unit(rays::cross3(rays::minus3(p1, p0), rays::minus3(p2, p0)))
+    unit(rays::cross3(rays::minus3(p.p1, p.p0), rays::minus3(p.p2, p.p0)))
 }
