@@ -1,64 +1,75 @@
-// The rays of an image's pixels, with question 8 of the passes that follow them, and the face that a pixel shows.
+// The face that a pixel shows and its ray, with question 8 of the passes that follow the rays.
 // Nothing here writes, and no function here is a public call.
 #![tactic(auto)]
 
-ghost use Rattle.std.specs.Prelude.{◌≡◌, List, ℕ, ◌*◌, ◌<◌, length};
+ghost use Rattle.std.specs.Prelude.{◌≡◌, ◌*◌, ◌/◌, ◌<◌, length, IfSome};
 ghost use Rattle.lists.specs.Lists.{every, span};
-ghost use Rattle.questions.specs.Laws.{Sized};
-ghost use Rattle.meshes.specs.View.{named, view_of};
-ghost use Rattle.rays.specs.Pixel.{ray_at};
-ghost use Rattle.pixel_rays.specs.Rays.{image, ray_of, answered, rays_answer};
+ghost use Rattle.meshes.specs.Mesh.{Among};
+ghost use Rattle.meshes.specs.Answer.{face_of, maybe_face};
+ghost use Rattle.rays.specs.Pixel.{row_at};
+ghost use Rattle.rays.specs.Answer.{pixel_ray_of};
+ghost use Rattle.pixel_rays.specs.Rays.{ray_of, answered, rays_answer};
+ghost use Rattle.pixel_rays.specs.Answer.{image_of, shown, number};
 
-use rays::PixelRay;
+use meshes::{Face, View};
+use pixels::Pixel;
+use questions::EMPTY;
+use rays::Ray;
 
-pub mod face;
-
-// Question 8 of one pixel.
-fn pixel_ok(entry: u32, m: &[f32; 16], x: f32, y: f32) -> bool
-    ensures { (tri : List ℕ) → result ≡ answered (named tri entry) (ray_at m.now x y) }
+// The face that a pixel shows, none where it is empty.
+#[tactic(auto, using(crate::specs::Laws::entry_seen))]
+pub fn face(view: &View, p: Pixel) -> Option<Face>
+    requires in_row { p.x < view.now.size.w }
+    requires in_column { p.y < view.now.size.h }
+    ensures face { maybe_face result ≡ (shown view.now).at (number view.now p) }
+    ensures among { IfSome result (λ f. Among (length view.now.mesh.vtx2xyz.now / 3) (face_of f)) }
 {
-    if entry == questions::EMPTY {
-        return true;
-    }
-    let r = rays::ray_at(m, x, y);
-    let PixelRay::Along(_) = r else {
-        return false;
-    };
-    true
+    view.mesh.named(view.entry(p))
+}
+
+// The ray of a pixel, whose row is at y.
+#[tactic(auto, using(crate::specs::Laws::ray_seen))]
+pub fn ray(view: &View, p: Pixel, y: f32) -> Option<Ray>
+    requires in_row { p.x < view.now.size.w }
+    requires row { y ≡ row_at view.now.size.h p.y }
+    ensures { pixel_ray_of result ≡ ray_of (image_of view.now) (number view.now p) }
+{
+    rays::ray_at(view.m, rays::column_at(view.size.w, p.x), y)
+}
+
+// Question 8 of a pixel, whose row is at y.
+#[tactic(auto, using(crate::specs::Laws::entry_seen), unfolding(meshes::specs::View::named, crate::specs::Rays::answered))]
+fn pixel_ok(view: &View, p: Pixel, y: f32) -> bool
+    requires in_row { p.x < view.now.size.w }
+    requires in_column { p.y < view.now.size.h }
+    requires row { y ≡ row_at view.now.size.h p.y }
+    ensures { result ≡ answered ((shown view.now).at (number view.now p)) (ray_of (image_of view.now) (number view.now p)) }
+{
+    view.entry(p) == EMPTY || ray(view, p, y).is_some()
 }
 
 // Question 8 of row iy.
-fn row_ok(w: usize, h: usize, m: &[f32; 16], pix2tri: &[u32], iy: usize) -> bool
-    requires sized { Sized 1 w h }
-    requires pix2tri_len { length pix2tri.now ≡ w * h }
-    requires iy_lt_h { iy < h }
-    ensures { (tri : List ℕ) → result ≡ every (λ p. answered ((view_of tri pix2tri.now).at p) (ray_of (image w h m.now) p)) (span (iy * w) w) }
+fn row_ok(view: &View, iy: usize) -> bool
+    requires { iy < view.now.size.h }
+    ensures { result ≡ every (λ p. answered ((shown view.now).at p) (ray_of (image_of view.now) p)) (span (iy * view.now.size.w) view.now.size.w) }
 {
-    let y = rays::row_at(h, iy);
-    let base = iy * w;
-    let mut ix = 0;
-    while ix < w {
-        let x = rays::column_at(w, ix);
-        if !pixel_ok(pix2tri[base + ix], m, x, y) {
+    let y = rays::row_at(view.size.h, iy);
+    for ix in 0..view.size.w {
+        if !pixel_ok(view, Pixel { x: ix, y: iy }, y) {
             return false;
         }
-        ix += 1;
     }
     true
 }
 
 // Question 8.
-pub fn rays_ok(w: usize, h: usize, m: &[f32; 16], pix2tri: &[u32]) -> bool
-    requires sized { Sized 1 w h }
-    requires pix2tri_len { length pix2tri.now ≡ w * h }
-    ensures { (tri : List ℕ) → result ≡ rays_answer (image w h m.now) (view_of tri pix2tri.now) }
+pub fn rays_ok(view: &View) -> bool
+    ensures { result ≡ rays_answer (image_of view.now) (shown view.now) }
 {
-    let mut iy = 0;
-    while iy < h {
-        if !row_ok(w, h, m, pix2tri, iy) {
+    for iy in 0..view.size.h {
+        if !row_ok(view, iy) {
             return false;
         }
-        iy += 1;
     }
     true
 }
