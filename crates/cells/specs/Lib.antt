@@ -2,3 +2,4 @@
 pub mod Cell
 pub mod Layer
 pub mod Steps
+pub mod Lent
