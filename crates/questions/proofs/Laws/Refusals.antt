@@ -1,0 +1,24 @@
+-- How a call's outcome comes of an answer that a `?` took apart.
+use Rattle.std.specs.Prelude.{ℕ, ◌≡◌, Err}
+use Rattle.std.proofs.Common.{arith}
+use Rattle.questions.specs.declared.Refusal.{Refusal}
+use Rattle.questions.specs.declared.Refusal.TheVariants.{Size, Channels, Slices, Lengths, Numbers, Vertices, Faces, Projections, Weights}
+use Rattle.questions.specs.Answer.{number_of, code_of}
+use Rattle.questions.specs.Questions.{outcome, answer}
+use Rattle.questions.specs.Laws.{call_refused}
+
+-- no question has the number 0
+pub never_accepted : (r : Refusal) → number_of r ≡ 0 → ⊥
+never_accepted Size e = omega (arith, e)
+never_accepted Channels e = omega (arith, e)
+never_accepted Slices e = omega (arith, e)
+never_accepted Lengths e = omega (arith, e)
+never_accepted Numbers e = omega (arith, e)
+never_accepted Vertices e = omega (arith, e)
+never_accepted Faces e = omega (arith, e)
+never_accepted Projections e = omega (arith, e)
+never_accepted Weights e = omega (arith, e)
+
+-- a refused call leaves what it was lent
+pub refused : {A : Type 0} {k : ℕ} {before : A} (r : Refusal) (after : A) → code_of (Err r) ≡ k → outcome (code_of (Err r)) before ≡ answer k before after
+refused r after e = call_refused after e (never_accepted r)
