@@ -38,11 +38,11 @@ corners_are : {A : Type 0} {a b c a' b' c' : A} → a ≡ a' → b ≡ b' → c 
 corners_are p q r = rw (p, q, r)
 
 -- from the steps that project a face's corners
-pub face-projected : (m xyz : List Float) (f : Face) {x : Triangle (Vec3 Float)} {p0 p1 p2 : Projected Float} → projects m xyz (some f) ≡ true → x ≡ corners_at xyz f
+pub face_projected : (m xyz : List Float) (f : Face) {x : Triangle (Vec3 Float)} {p0 p1 p2 : Projected Float} → projects m xyz (some f) ≡ true → x ≡ corners_at xyz f
     → p0 ≡ project_untested floats (entries m) x.p0 → p1 ≡ project_untested floats (entries m) x.p1 → p2 ≡ project_untested floats (entries m) x.p2
     → project_face m xyz f ≡ some (triangle p0 p1 p2)
 unfolding projects project_face corners_at
-face-projected m xyz f ok ex u0 u1 u2 =
+face_projected m xyz f ok ex u0 u1 u2 =
     let at = project_untested floats (entries m) in
     all_projected m (vertex_at xyz f.v0) (vertex_at xyz f.v1) (vertex_at xyz f.v2) ok
     ∙ ap some

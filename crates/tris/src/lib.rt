@@ -1,164 +1,114 @@
 // A face as `bwd` sees it: its corners, and where the matrix takes them. No function here is a public call.
 #![tactic(auto)]
 
-ghost use Rattle.std.specs.Prelude.{◌≡◌, ◌+◌, ◌*◌, ◌/◌, ◌<◌, length};
+ghost use Rattle.std.specs.Prelude.{◌≡◌};
 ghost use Rattle.std.proofs.Math.Option.{some};
-ghost use Rattle.geometry.specs.Vector.{weights, triangle};
-ghost use Rattle.geometry.specs.Answer.{point2, point3, projected_of, weights_of, corner_weights_of};
-ghost use Rattle.meshes.specs.Mesh.{face_at, corners_at};
+ghost use Rattle.geometry.specs.Answer.{point2, point3, weights_of, maybe_weights, corner_weights_of};
+ghost use Rattle.meshes.specs.Answer.{face_of};
 ghost use Rattle.inside.specs.Inside.{all_inside, weights_in, present};
-ghost use Rattle.meshes.specs.Sound.{SoundMesh};
 ghost use Rattle.tris.specs.Weights as spec;
-ghost use Rattle.rays.specs.Answer.{corners_of};
 ghost use Rattle.tris.specs.Tri.{point_on, unormal, Projects, TriOf};
 ghost use Rattle.tris.specs.Answer.{corners_in, projected_in};
 
-use geometry::{CornerWeights, Projected, Vec2, Vec3, Weights};
-use rays::Corners;
+use geometry::{CornerWeights, Projected, Triangle, Vec2, Vec3, Weights};
+use meshes::{Face, Mesh};
 
 #[derive(Clone, Copy)]
 pub struct Tri {
-    pub node2xyz: [f32; 9],
-    pub node2pixxy: [f32; 6],
-    pub node2w: [f32; 3],
-    pub node2pixz: [f32; 3],
+    pub xyz: Triangle<Vec3>,
+    pub pix: Triangle<Projected>,
 }
 
-fn tri_of(x: Corners, p0: Projected, p1: Projected, p2: Projected) -> Tri
-    ensures { (corners_in result ≡ corners_of x) × (projected_in result ≡ triangle (projected_of p0) (projected_of p1) (projected_of p2)) }
-{
-    let x0 = x.p0;
-    let x1 = x.p1;
-    let x2 = x.p2;
-    Tri {
-        node2xyz: [x0.x, x0.y, x0.z, x1.x, x1.y, x1.z, x2.x, x2.y, x2.z],
-        node2pixxy: [p0.x, p0.y, p1.x, p1.y, p2.x, p2.y],
-        node2w: [p0.w, p1.w, p2.w],
-        node2pixz: [p0.z, p1.z, p2.z],
+impl Tri {
+    // A face whose corners question 8 has found to have projections.
+    #[tactic(auto, using(crate::proofs::Projecting::face_projected))]
+    pub fn new(mesh: &Mesh, m: &[f32; 16], f: Face) -> Tri
+        requires { Projects m.now mesh.now.vtx2xyz.now (face_of f) }
+        ensures { TriOf m.now mesh.now.vtx2xyz.now (face_of f) (corners_in result) (projected_in result) }
+    {
+        let xyz = mesh.corners(f);
+        let pix = Triangle {
+            p0: jacobians::project_untested(m, xyz.p0),
+            p1: jacobians::project_untested(m, xyz.p1),
+            p2: jacobians::project_untested(m, xyz.p2),
+        };
+        Tri { xyz, pix }
     }
-}
 
-// The corners of face number i.
-fn corners(tri2vtx: &[u32], vtx2xyz: &[f32], i: usize) -> Corners
-    requires sound_mesh { SoundMesh tri2vtx.now vtx2xyz.now }
-    requires i_in_bounds { i < length tri2vtx.now / 3 }
-    ensures { corners_of result ≡ corners_at vtx2xyz.now (face_at tri2vtx.now i) }
-{
-    let j = 3 * i;
-    Corners {
-        p0: meshes::vertex(vtx2xyz, tri2vtx[j] as usize),
-        p1: meshes::vertex(vtx2xyz, tri2vtx[j + 1] as usize),
-        p2: meshes::vertex(vtx2xyz, tri2vtx[j + 2] as usize),
+    #[tactic(auto, unfolding(inside::specs::Inside::weights_in))]
+    fn barycentric_pix(&self, q: Vec2) -> Option<CornerWeights>
+        ensures { corner_weights_of result ≡ weights_in (point2 q) (some (projected_in self.now)) }
+    {
+        let corners = Triangle {
+            p0: geometry::flat(self.pix.p0.p),
+            p1: geometry::flat(self.pix.p1.p),
+            p2: geometry::flat(self.pix.p2.p),
+        };
+        geometry::corner_weights(q, corners)
     }
-}
 
-// Face number i, whose corners question 8 has found to have projections.
-pub fn tri_new(tri2vtx: &[u32], vtx2xyz: &[f32], m: &[f32; 16], i: usize) -> Tri
-    requires sound_mesh { SoundMesh tri2vtx.now vtx2xyz.now }
-    requires projects { Projects tri2vtx.now m.now vtx2xyz.now i }
-    ensures { TriOf m.now vtx2xyz.now (face_at tri2vtx.now i) (corners_in result) (projected_in result) }
-{
-    let x = corners(tri2vtx, vtx2xyz, i);
-    let p0 = jacobians::project_untested(m, x.p0);
-    let p1 = jacobians::project_untested(m, x.p1);
-    let p2 = jacobians::project_untested(m, x.p2);
-    tri_of(x, p0, p1, p2)
-}
+    // Are the weights of q all ≥ 0? None means outside.
+    pub fn is_inside(&self, q: Vec2) -> bool
+        ensures { result ≡ all_inside (weights_in (point2 q) (some (projected_in self.now))) }
+    {
+        inside::all_inside(self.barycentric_pix(q))
+    }
 
-fn barycentric_pix(t: Tri, q: Vec2) -> CornerWeights
-    ensures { corner_weights_of result ≡ weights_in (point2 q) (some (projected_in t)) }
-{
-    let p = t.node2pixxy;
-    geometry::corner_weights(
-        q,
-        Vec2 { x: p[0], y: p[1] },
-        Vec2 { x: p[2], y: p[3] },
-        Vec2 { x: p[4], y: p[5] },
-    )
-}
+    #[tactic(auto, unfolding(crate::specs::Weights::world_in, crate::specs::Weights::to_world, crate::specs::Weights::over_divisors, geometry::specs::Leaf::weighed_all, geometry::specs::Formula::total))]
+    pub fn barycentric_world(&self, q: Vec2) -> Option<Weights>
+        ensures { maybe_weights result ≡ spec.world_in (point2 q) (some (projected_in self.now)) }
+    {
+        let b = self.barycentric_pix(q)?.b;
+        let a = Weights {
+            b0: b.b0 / self.pix.p0.w,
+            b1: b.b1 / self.pix.p1.w,
+            b2: b.b2 / self.pix.p2.w,
+        };
+        all_finite(geometry::weighed(a, a.b0 + a.b1 + a.b2))
+    }
 
-// Are the weights of q all ≥ 0? None means outside.
-pub fn is_inside(t: Tri, q: Vec2) -> bool
-    ensures { result ≡ all_inside (weights_in (point2 q) (some (projected_in t))) }
-{
-    inside::all_inside(barycentric_pix(t, q))
+    // Has `barycentric_world` an answer?
+    #[tactic(auto, unfolding(inside::specs::Inside::present))]
+    pub fn has_world(&self, q: Vec2) -> bool
+        ensures { result ≡ present (spec.world_in (point2 q) (some (projected_in self.now))) }
+    {
+        self.barycentric_world(q).is_some()
+    }
+
+    // The point that the weights make of the corners.
+    #[tactic(auto, unfolding(crate::specs::Tri::point_on, geometry::specs::Formula::point_from))]
+    pub fn world_pos(&self, b: Weights) -> Vec3
+        ensures { point3 result ≡ point_on (corners_in self.now) (weights_of b) }
+    {
+        let p0 = self.xyz.p0;
+        let p1 = self.xyz.p1;
+        let p2 = self.xyz.p2;
+        Vec3 {
+            x: geometry::blend(b, p0.x, p1.x, p2.x),
+            y: geometry::blend(b, p0.y, p1.y, p2.y),
+            z: geometry::blend(b, p0.z, p1.z, p2.z),
+        }
+    }
+
+    // The unit normal of the projected face.
+    #[tactic(auto, unfolding(crate::specs::Tri::unormal))]
+    pub fn unormal_pix(&self) -> Vec3
+        ensures { point3 result ≡ unormal (projected_in self.now) }
+    {
+        normals::unit_normal(Triangle {
+            p0: self.pix.p0.p,
+            p1: self.pix.p1.p,
+            p2: self.pix.p2.p,
+        })
+    }
 }
 
 // The weights, or none where one of them is not finite.
-fn all_finite(b: Weights) -> Weights
-    ensures { weights_of result ≡ spec.finite_all (weights_of b) }
+#[tactic(auto, unfolding(crate::specs::Weights::finite_all))]
+fn all_finite(weights: Option<Weights>) -> Option<Weights>
+    ensures { maybe_weights result ≡ spec.finite_all (maybe_weights weights) }
 {
-    let Weights::Three(b0, b1, b2) = b else {
-        return Weights::Nothing;
-    };
-    if !geometry::finite(b0) {
-        return Weights::Nothing;
-    }
-    if !geometry::finite(b1) {
-        return Weights::Nothing;
-    }
-    if !geometry::finite(b2) {
-        return Weights::Nothing;
-    }
-    Weights::Three(b0, b1, b2)
-}
-
-pub fn barycentric_world(t: Tri, q: Vec2) -> Weights
-    ensures { weights_of result ≡ spec.world_in (point2 q) (some (projected_in t)) }
-{
-    let CornerWeights::Three(b0, b1, b2, _) = barycentric_pix(t, q) else {
-        return Weights::Nothing;
-    };
-    let w = t.node2w;
-    let a0 = b0 / w[0];
-    let a1 = b1 / w[1];
-    let a2 = b2 / w[2];
-    all_finite(geometry::weighed(a0, a1, a2, a0 + a1 + a2))
-}
-
-// Has `barycentric_world` an answer?
-pub fn has_world(t: Tri, q: Vec2) -> bool
-    ensures { result ≡ present (spec.world_in (point2 q) (some (projected_in t))) }
-{
-    match barycentric_world(t, q) {
-        Weights::Three(_, _, _) => true,
-        Weights::Nothing => false,
-    }
-}
-
-// The point that the weights make of the corners.
-pub fn world_pos(t: Tri, b0: f32, b1: f32, b2: f32) -> Vec3
-    ensures { point3 result ≡ point_on (corners_in t) (weights b0 b1 b2) }
-{
-    let x = t.node2xyz;
-    Vec3 {
-        x: geometry::blend(b0, b1, b2, x[0], x[3], x[6]),
-        y: geometry::blend(b0, b1, b2, x[1], x[4], x[7]),
-        z: geometry::blend(b0, b1, b2, x[2], x[5], x[8]),
-    }
-}
-
-// The unit normal of the projected face.
-pub fn unormal_pix(t: Tri) -> Vec3
-    ensures { point3 result ≡ unormal (projected_in t) }
-{
-    let p = t.node2pixxy;
-    let z = t.node2pixz;
-    normals::unit_normal(
-        Vec3 {
-            x: p[0],
-            y: p[1],
-            z: z[0],
-        },
-        Vec3 {
-            x: p[2],
-            y: p[3],
-            z: z[1],
-        },
-        Vec3 {
-            x: p[4],
-            y: p[5],
-            z: z[2],
-        },
-    )
+    weights.filter(|b| {
+        geometry::finite(b.b0) && geometry::finite(b.b1) && geometry::finite(b.b2)
+    })
 }
