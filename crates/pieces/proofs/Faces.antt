@@ -1,29 +1,43 @@
 -- The pieces of a face, by what its corners project to.
-use mathlib.Core.Path.{◌≡◌}
-use mathlib.Core.Option.{none, some}
+use mathlib.Core.Path.{◌≡◌, refl, ◌∙◌}
+use mathlib.Core.Option.{Option, none, some}
 use mathlib.Core.List.{List, []}
 use lib.Ieee.{Float}
 use Rattle.geometry.specs.Arith.{floats}
-use Rattle.geometry.specs.Vector.{Vec3, Projected}
-use Rattle.geometry.specs.Leaf.{entries, project}
-use Rattle.rules.specs.Piece.{Corner, scored, corners_pieces, pieces, projected_pieces}
+use Rattle.geometry.specs.Vector.{Projected, Triangle}
+use Rattle.geometry.specs.Leaf.{entries}
+use Rattle.meshes.specs.Mesh.{Face, all_three, project_face}
+use Rattle.rules.specs.declared.Facing.{Facing}
+use Rattle.rules.specs.Piece.{Corner, Piece, scored, corners_pieces, pieces, projected_pieces}
+use Rattle.rules.specs.Offers.{scene, face_pieces}
+use Prim.Native.Nat.{ℕ}
 
-module _ (m : List Float) (x0 x1 x2 : Vec3 Float) where
-  pub no_first : project m x0 ≡ none → [] ≡ pieces m x0 x1 x2
-  unfolding pieces projected_pieces
-  no_first e0 = rw e0
+-- a corner has no projection
+missing : (t11 : Float) (a b c : Option (Projected Float)) → none ≡ all_three a b c → [] ≡ projected_pieces t11 a b c
+unfolding all_three projected_pieces
+missing t11 none b c e = refl
+missing t11 (some a) none c e = refl
+missing t11 (some a) (some b) none e = refl
+missing t11 (some a) (some b) (some c) e = cc
 
-  pub no_second : {a : Projected Float} → project m x0 ≡ some a → project m x1 ≡ none → [] ≡ pieces m x0 x1 x2
-  unfolding pieces projected_pieces
-  no_second e0 e1 = rw (e0, e1)
+-- each has one
+there : (t11 : Float) (a b c : Option (Projected Float)) (t : Triangle (Projected Float)) → some t ≡ all_three a b c
+    → corners_pieces t11 (scored floats t11 t.p0) (scored floats t11 t.p1) (scored floats t11 t.p2) ≡ projected_pieces t11 a b c
+unfolding all_three projected_pieces
+there t11 none b c t e = cc
+there t11 (some a) none c t e = cc
+there t11 (some a) (some b) none t e = cc
+there t11 (some a) (some b) (some c) t e = cc
 
-  pub no_third : {a b : Projected Float} → project m x0 ≡ some a → project m x1 ≡ some b → project m x2 ≡ none → [] ≡ pieces m x0 x1 x2
-  unfolding pieces projected_pieces
-  no_third e0 e1 e2 = rw (e0, e1, e2)
+module _ (m xyz : List Float) (f : Face) (w h : ℕ) (facing : Facing) where
+  pub none_projected : none ≡ project_face m xyz f → [] ≡ face_pieces (scene m xyz w h facing) f
+  unfolding face_pieces pieces project_face
+  none_projected e = missing (entries m 11) _ _ _ e
 
   -- the corners projected and scored
-  pub all_scored : {a b c : Projected Float} {v0 v1 v2 : Corner Float} → project m x0 ≡ some a → project m x1 ≡ some b → project m x2 ≡ some c
-      → v0 ≡ scored floats (entries m 11) a → v1 ≡ scored floats (entries m 11) b → v2 ≡ scored floats (entries m 11) c
-      → corners_pieces (entries m 11) v0 v1 v2 ≡ pieces m x0 x1 x2
-  unfolding pieces projected_pieces
-  all_scored e0 e1 e2 f0 f1 f2 = rw (e0, e1, e2, f0, f1, f2)
+  pub all_projected : {v0 v1 v2 : Corner Float} {ps : List Piece} (t : Triangle (Projected Float)) → some t ≡ project_face m xyz f
+      → v0 ≡ scored floats (entries m 11) t.p0 → v1 ≡ scored floats (entries m 11) t.p1 → v2 ≡ scored floats (entries m 11) t.p2
+      → ps ≡ corners_pieces (entries m 11) v0 v1 v2
+      → ps ≡ face_pieces (scene m xyz w h facing) f
+  unfolding face_pieces pieces project_face
+  all_projected t e f0 f1 f2 g = g ∙ rw (f0, f1, f2) (there (entries m 11) _ _ _ t e)

@@ -1,2 +1,2 @@
--- What the code's pieces and arrays of corners stand for.
+-- What the code's pieces stand for.
 pub mod Answer
