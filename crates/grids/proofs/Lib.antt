@@ -1,2 +1,2 @@
--- laws that the proofs share
+-- a law that a proof cites
 pub mod Floor

@@ -1,14 +1,17 @@
 // The values on the edges of an axis as a grid, and the value between four of its places. No function here is a public call.
 #![tactic(auto)]
 
-ghost use Rattle.std.specs.Prelude.{◌≡◌, ◌+◌, ◌*◌, ◌≤◌, length};
+ghost use Rattle.std.specs.Prelude.{◌≡◌, ◌-◌, ◌≤◌, ◌<◌, length};
 ghost use Rattle.geometry.specs.Arith.{floats};
-ghost use Rattle.geometry.specs.Vector.{vec2};
-ghost use Rattle.questions.specs.Laws.{Sized};
-ghost use Rattle.pixels.specs.Edge.{axis, edge_count};
+ghost use Rattle.geometry.specs.Answer.{point2};
+ghost use Rattle.pixels.specs.Edge as edge;
 ghost use Rattle.grids.specs.Cell as spec;
 ghost use Rattle.grids.specs.Grid as grid;
-ghost use Rattle.grids.specs.Steps.{stand_of, Below};
+ghost use Rattle.grids.specs.Steps.{stand_of, axis_of, Below};
+
+use geometry::Vec2;
+use pixels::{Axis, ImageSize};
+use std::num::saturating_f32_to_usize;
 
 // Two neighbouring grid places and the fraction of the way between them.
 #[derive(Clone, Copy)]
@@ -18,108 +21,99 @@ pub struct Stand {
     pub t: f32,
 }
 
+// The values on the edges of an axis, of an image with sides of at least 2 pixels.
+#[derive(Clone, Copy)]
+pub struct Grid<'a> {
+    pub size: ImageSize,
+    pub axis: Axis,
+    pub values: &'a [f32],
+    pub ghost wide: { 2 ≤ size.w },
+    pub ghost tall: { 2 ≤ size.h },
+    pub ghost whole: { length values.now ≡ edge.edge_count (axis_of axis) size.w size.h },
+}
+
 // The greatest whole number not above x, held between 0 and `most`; 0 for NaN.
+#[tactic(auto, using(crate::proofs::Floor::cell_cut))]
 fn cell(most: usize, x: f32) -> usize
     requires { most ≤ 4096 }
-    ensures { result ≡ spec.cell most x }
+    ensures cell { result ≡ spec.cell most x }
+    ensures most { result ≤ most }
 {
-    if !(x > -1.0) {
-        return 0;
-    }
-    if !(x < 18446744073709551616.0) {
-        return most;
-    }
-    let whole = std::num::truncating_f32_to_u64(x) as usize;
-    if most < whole {
-        return most;
-    }
-    whole
+    saturating_f32_to_usize(x).min(most)
 }
 
 // NaN and -0 pass.
+#[tactic(auto, unfolding(crate::specs::Cell::clamp_unit))]
 fn clamp_unit(x: f32) -> f32
     ensures { result ≡ spec.clamp_unit x }
 {
-    if x < 0.0 {
-        return 0.0;
-    }
-    if x > 1.0 {
-        return 1.0;
-    }
-    x
+    x.clamp(0.0, 1.0)
 }
 
-// Where x stands along a side of `size` pixels with `places` grid places.
-fn stand_at(size: usize, places: usize, x: f32) -> Stand
-    requires le_size { (2 ≤ size) × (size ≤ 4096) }
-    requires places_le_size { (places ≤ size) × (size ≤ places + 1) }
-    ensures { (stand_of result ≡ spec.stand_at size places x) × (Below places result.low result.high) }
+// An edge lies at 1 along its axis, at 0.5 across.
+#[tactic(auto, unfolding(crate::specs::Grid::offset))]
+fn offset(along: usize) -> f32
+    ensures { result ≡ grid.offset along }
 {
+    if along == 0 { 0.5 } else { 1.0 }
+}
+
+// Where x stands along a side of `size` pixels, on which the grid has `along` places less.
+#[tactic(auto, unfolding(crate::specs::Cell::stand_at, crate::specs::Cell::stand_from))]
+fn stand_at(size: usize, along: usize, x: f32) -> Stand
+    requires size_least { 2 ≤ size }
+    requires size_most { size ≤ 4096 }
+    requires along_most { along ≤ 1 }
+    ensures stand { stand_of result ≡ spec.stand_at size (size - along) (floats.sub x (grid.offset along)) }
+    ensures below { Below (size - along) result.low result.high }
+{
+    let x = x - offset(along);
     let low = cell(size - 2, x);
-    let t = clamp_unit(x - pixels::as_float(low));
-    if low + 1 < places {
-        return Stand {
-            low,
-            high: low + 1,
-            t,
-        };
-    }
     Stand {
         low,
-        high: places - 1,
-        t,
+        high: (low + 1).min(size - along - 1),
+        t: clamp_unit(x - pixels::as_float(low)),
     }
 }
 
+#[tactic(auto, unfolding(crate::specs::Grid::bilinear))]
 fn bilinear(tx: f32, ty: f32, f00: f32, f10: f32, f01: f32, f11: f32) -> f32
     ensures { result ≡ grid.bilinear floats tx ty f00 f10 f01 f11 }
 {
     (1.0 - tx) * (1.0 - ty) * f00 + tx * (1.0 - ty) * f10 + (1.0 - tx) * ty * f01 + tx * ty * f11
 }
 
-// The value between four places of a grid in rows of n.
-fn between(values: &[f32], n: usize, m: usize, a: Stand, b: Stand) -> f32
-    requires n_bound { (n ≤ 4096) × (m ≤ 4096) }
-    requires values_len { length values.now ≡ m * n }
-    requires below { Below n a.low a.high }
-    requires below_2 { Below m b.low b.high }
-    ensures { result ≡ grid.between values.now n (stand_of a) (stand_of b) }
-{
-    let i00 = pixels::number(n, m, a.low, b.low);
-    let i10 = pixels::number(n, m, a.high, b.low);
-    let i01 = pixels::number(n, m, a.low, b.high);
-    let i11 = pixels::number(n, m, a.high, b.high);
-    bilinear(a.t, b.t, values[i00], values[i10], values[i01], values[i11])
-}
-
-// The value at (x, y), less the offsets, of a grid over an image of img_w by img_h pixels with an edge for each pair (right, down) apart.
-pub fn sample(
-    values: &[f32],
-    img_w: usize,
-    img_h: usize,
-    right: usize,
-    down: usize,
-    x: f32,
-    y: f32,
-) -> f32
-    requires sized { Sized 2 img_w img_h }
-    requires right_bound { (right ≤ 1) × (down ≤ 1) }
-    requires values_len { length values.now ≡ edge_count (axis right down) img_w img_h }
-    ensures { result ≡ grid.sample (axis right down) img_w img_h values.now (vec2 x y) }
-{
-    let n = img_w - right;
-    let m = img_h - down;
-    let a = stand_at(img_w, n, x - offset(right));
-    let b = stand_at(img_h, m, y - offset(down));
-    between(values, n, m, a, b)
-}
-
-// An edge lies at 1 along its axis, at 0.5 across.
-fn offset(along: usize) -> f32
-    ensures { result ≡ grid.offset along }
-{
-    if along == 0 {
-        return 0.5;
+impl Grid<'_> {
+    // The value at a column and a row.
+    fn value(&self, column: usize, row: usize) -> f32
+        requires in_row { column < self.now.size.w - self.now.axis.right }
+        requires in_column { row < self.now.size.h - self.now.axis.down }
+        ensures { result ≡ grid.value_at self.now.values.now (self.now.size.w - self.now.axis.right) column row }
+    {
+        self.values[row * (self.size.w - self.axis.right) + column]
     }
-    1.0
+
+    // The value between four places.
+    #[tactic(auto, unfolding(crate::specs::Grid::between))]
+    fn between(&self, a: Stand, b: Stand) -> f32
+        requires in_row { Below (self.now.size.w - self.now.axis.right) a.low a.high }
+        requires in_column { Below (self.now.size.h - self.now.axis.down) b.low b.high }
+        ensures { result ≡ grid.between self.now.values.now (self.now.size.w - self.now.axis.right) (stand_of a) (stand_of b) }
+    {
+        let f00 = self.value(a.low, b.low);
+        let f10 = self.value(a.high, b.low);
+        let f01 = self.value(a.low, b.high);
+        let f11 = self.value(a.high, b.high);
+        bilinear(a.t, b.t, f00, f10, f01, f11)
+    }
+
+    // The value at a point of the image, less the offsets of an edge.
+    #[tactic(auto, unfolding(crate::specs::Grid::sample))]
+    pub fn sample(&self, p: Vec2) -> f32
+        ensures { result ≡ grid.sample (axis_of self.now.axis) self.now.size.w self.now.size.h self.now.values.now (point2 p) }
+    {
+        let a = stand_at(self.size.w, self.axis.right, p.x);
+        let b = stand_at(self.size.h, self.axis.down, p.y);
+        self.between(a, b)
+    }
 }
