@@ -1,48 +1,47 @@
--- From what the steps of `interpolate_from_edges` promise to the call's whole outcome.
-use Prim.Native.Nat.{ℕ, ◌*◌, ◌/◌}
-use mathlib.Core.Path.{◌≡◌}
-use mathlib.Core.Bool.{◌&&◌}
+-- What a call knows once it is accepted.
+use Prim.Native.Nat.{ℕ, ◌*◌, ◌/◌, ◌≤◌}
+use mathlib.Core.Path.{◌≡◌, refl, sym}
+use mathlib.Core.Bool.{Bool, true, false, cond, ◌&&◌}
 use mathlib.Core.List.{List, []}
+use native.Mathlib.Omega.{arith}
 use lib.Ieee.{Float}
 use lib.ListN.{length}
-use Rattle.questions.specs.Questions.{outcome, sizes, groups, exact, most_count}
+use Rattle.std.specs.Prelude.{Result, Ok, Err}
+use Rattle.questions.specs.Questions.{sizes, groups, exact, most_count}
+use Rattle.questions.specs.declared.Refusal.{Refusal}
 use Rattle.lists.specs.Laws.Tests.{both}
-use Rattle.questions.specs.Laws.{Sized, sized, grouped, whole, exactly, accepted, call_refused, call_done}
-use Rattle.lists.specs.Lists.{tabulate}
+use Rattle.questions.specs.Laws.{Sized, sized, grouped, whole, exactly, accepted}
 use Rattle.pixels.specs.Edge.{hedge, vedge, edge_count}
-use Rattle.velocity.specs.Velocity.{velocity_at}
-use Rattle.velocity.specs.Calls.{velocity_code, velocities}
+use Rattle.velocity.specs.Calls.{velocity_code}
 
--- what an accepted call knows
+-- a question that lets the call pass is answered yes
+pub asked : (b : Bool) (r : Refusal) {answer : Result (Unit {0}) Refusal} → answer ≡ Ok tt → answer ≡ cond b (Ok tt) (Err r) → b ≡ true
+asked true r is e = refl
+asked false r is e = cc
+
+-- sides of at least 2 pixels are an image's
+pub wide : {w h : ℕ} → Sized 2 w h → Sized 1 w h
+wide s = let l = s.w_least in let k = s.h_least in record { w_least = omega arith; w_most = s.w_most; h_least = omega arith; h_most = s.h_most }
+
 pub record Ready (w h : ℕ) (hs vs xy velo : List Float) : Type 0 where
   pub size : Sized 2 w h
   pub pairs : 2 * (length xy / 2) ≡ length xy
-  pub velo_length : length velo ≡ length xy
+  pub lent : length velo ≡ length xy
   pub hedges : length hs ≡ edge_count hedge w h
   pub vedges : length vs ≡ edge_count vedge w h
 
-module _ (w h : ℕ) (hs vs xy velo : List Float) where
-  pub velocity_accepted : velocity_code w h hs vs xy velo ≡ 0 → Ready w h hs vs xy velo
-  unfolding velocity_code
-  velocity_accepted e =
-      let a = accepted 0 (sizes 2 w h) _ e in
-      let b = accepted 2 (groups 2 most_count (length xy)) _ a.1 in
-      let c = accepted 3 (exact (edge_count hedge w h) (length hs) && (exact (edge_count vedge w h) (length vs) && exact (length xy) (length velo))) [] b.1 in
-      let d = both (exact (edge_count hedge w h) (length hs)) _ c.0 in
-      let f = both (exact (edge_count vedge w h) (length vs)) _ d.1 in
-      record {
-        size = sized 2 w h a.0;
-        pairs = whole 2 most_count (length xy) (grouped 2 most_count (length xy) b.0);
-        velo_length = exactly _ _ f.1;
-        hedges = exactly _ _ d.0;
-        vedges = exactly _ _ f.0;
-      }
-
-  module _ (code : ℕ) (e : code ≡ velocity_code w h hs vs xy velo) where
-    pub velocity_refused : (code ≡ 0 → ⊥) → outcome code velo ≡ velocities w h hs vs xy velo
-    unfolding velocities
-    velocity_refused no0 = call_refused _ e no0
-
-    pub velocity_done : (velo' : List Float) → code ≡ 0 → velo' ≡ tabulate (velocity_at w h hs vs xy) 0 (length xy) → outcome 0 velo' ≡ velocities w h hs vs xy velo
-    unfolding velocities
-    velocity_done velo' z ev = call_done velo e z ev
+pub velocity_accepted : (w h : ℕ) (hs vs xy velo : List Float) → 0 ≡ velocity_code w h hs vs xy velo → Ready w h hs vs xy velo
+unfolding velocity_code
+velocity_accepted w h hs vs xy velo e =
+    let a = accepted 0 (sizes 2 w h) _ (sym e) in
+    let b = accepted 2 (groups 2 most_count (length xy)) _ a.1 in
+    let c = accepted 3 (exact (edge_count hedge w h) (length hs) && (exact (edge_count vedge w h) (length vs) && exact (length xy) (length velo))) [] b.1 in
+    let d = both (exact (edge_count hedge w h) (length hs)) _ c.0 in
+    let f = both (exact (edge_count vedge w h) (length vs)) _ d.1 in
+    record {
+      size = sized 2 w h a.0;
+      pairs = whole 2 most_count (length xy) (grouped 2 most_count (length xy) b.0);
+      lent = exactly _ _ f.1;
+      hedges = exactly _ _ d.0;
+      vedges = exactly _ _ f.0;
+    }
