@@ -1,7 +1,7 @@
 -- The cell of a coordinate is its truncation, held below.
 use Rattle.std.proofs.Common.{◌≡◌, ℕ, ◌≤◌, min, true, false, sym, arith}
 use native.Mathlib.Nat.{min-eq_right, zero-min}
-use lib.Ieee.{Float, nan, inf, fin, up, down, to_unsigned}
+use lib.Ieee.{Float, nan, inf, fin, to_unsigned}
 use Rattle.grids.specs.Cell.{cell}
 
 pub cell_cut : (most : ℕ) (x : Float) → most ≤ 4096 → cell most x ≡ min (to_unsigned 64 x) most

@@ -2,6 +2,5 @@
 pub mod Laws
 pub mod Screen
 pub mod Told
--- lemmas of the questions, and of the loop over the pixels
-pub mod Asked
+-- lemmas of the loop over the pixels
 pub mod Filling

@@ -2,77 +2,70 @@
 #![tactic(auto)]
 
 ghost use Rattle.std.specs.Prelude.{◌≡◌, ◌≤◌, length};
+ghost use Rattle.questions.specs.Answer.{code_of};
 ghost use Rattle.questions.specs.Questions.{outcome, most_count};
 ghost use Rattle.labels.specs.Labels.{label, labelled, label_code, labelling};
 
+use pixels::ImageSize;
+use questions::{EMPTY, Refusal, ask, count_ok, names_faces, sizes_ok};
+
 // What the screen shows of an entry. Past the table's end there is no body, and there lies empty.
+#[tactic(auto, using(crate::proofs::Laws::label_read, crate::proofs::Laws::label_past))]
 fn label_of(tri2body: &[u32], entry: u32) -> u32
     requires { length tri2body.now ≤ most_count }
     ensures { result ≡ label tri2body.now entry }
 {
-    let face = entry as usize;
-    if face < tri2body.len() {
-        return tri2body[face];
+    match tri2body.get(entry as usize) {
+        Some(body) => *body,
+        None => EMPTY,
     }
-    questions::EMPTY
 }
 
 // Questions 1, 3, 4 and 7.
-fn label_code(
+#[tactic(auto, using(questions::specs::Laws::sized), unfolding(crate::specs::Labels::label_code, questions::specs::Questions::first_no, questions::specs::Questions::exact))]
+fn ask_label(
     pix2tri: &[u32],
     tri2body: &[u32],
     img_w: usize,
     img_h: usize,
     pix2body: &[u32],
-) -> u32
-    ensures { result ≡ label_code pix2tri.now tri2body.now img_w img_h pix2body.now }
+) -> Result<(), Refusal>
+    ensures { code_of result ≡ label_code pix2tri.now tri2body.now img_w img_h pix2body.now }
 {
-    if !questions::sizes_ok(1, img_w, img_h) {
-        return 1;
-    }
-    if !questions::count_ok(tri2body.len()) {
-        return 3;
-    }
-    let pixels = img_w * img_h;
-    if pix2tri.len() != pixels {
-        return 4;
-    }
-    if pix2body.len() != pixels {
-        return 4;
-    }
-    if !questions::names_faces(tri2body.len(), pix2tri) {
-        return 7;
-    }
-    0
+    ask(sizes_ok(1, img_w, img_h), Refusal::Size)?;
+    ask(count_ok(tri2body.len()), Refusal::Slices)?;
+    let size = ImageSize { w: img_w, h: img_h };
+    let pixels = size.pixels();
+    ask(
+        pix2tri.len() == pixels && pix2body.len() == pixels,
+        Refusal::Lengths,
+    )?;
+    ask(names_faces(tri2body.len(), pix2tri), Refusal::Faces)
 }
 
 // What the screen shows of every pixel.
 fn label_pixels(pix2tri: &[u32], tri2body: &[u32], pix2body: &mut [u32])
-    requires tri2body_len_bound { length tri2body.now ≤ most_count }
-    requires pix2body_len { length pix2body.old ≡ length pix2tri.now }
+    requires few { length tri2body.now ≤ most_count }
+    requires lent { length pix2body.old ≡ length pix2tri.now }
     ensures { pix2body.new ≡ labelled tri2body.now pix2tri.now }
 {
-    let mut p = 0;
-    while p < pix2tri.len() {
+    for p in 0..pix2tri.len() {
         pix2body[p] = label_of(tri2body, pix2tri[p]);
-        p += 1;
     }
 }
 
 // Each pixel's body number, from a table with one for each face; 4294967295 for an empty pixel.
+#[tactic(auto, unfolding(crate::specs::Labels::labelling))]
 pub fn label_picture(
     pix2tri: &[u32],
     tri2body: &[u32],
     img_w: usize,
     img_h: usize,
     pix2body: &mut [u32],
-) -> u32
-    ensures { outcome result pix2body.new ≡ labelling pix2tri.now tri2body.now img_w img_h pix2body.old }
+) -> Result<(), Refusal>
+    ensures { outcome (code_of result) pix2body.new ≡ labelling pix2tri.now tri2body.now img_w img_h pix2body.old }
 {
-    let code = label_code(pix2tri, tri2body, img_w, img_h, pix2body);
-    if code != 0 {
-        return code;
-    }
+    ask_label(pix2tri, tri2body, img_w, img_h, pix2body)?;
     label_pixels(pix2tri, tri2body, pix2body);
-    0
+    Ok(())
 }

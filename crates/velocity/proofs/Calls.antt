@@ -1,27 +1,23 @@
 -- What a call knows once it is accepted.
-use Prim.Native.Nat.{ℕ, ◌*◌, ◌/◌, ◌≤◌}
-use mathlib.Core.Path.{◌≡◌, refl, sym}
-use mathlib.Core.Bool.{Bool, true, false, cond, ◌&&◌}
+use Prim.Native.Nat.{ℕ, ◌*◌, ◌/◌}
+use mathlib.Core.Path.{◌≡◌, sym}
+use mathlib.Core.Bool.{true, ◌&&◌}
 use mathlib.Core.List.{List, []}
 use native.Mathlib.Omega.{arith}
 use lib.Ieee.{Float}
 use lib.ListN.{length}
-use Rattle.std.specs.Prelude.{Result, Ok, Err}
 use Rattle.questions.specs.Questions.{sizes, groups, exact, most_count}
-use Rattle.questions.specs.declared.Refusal.{Refusal}
 use Rattle.lists.specs.Laws.Tests.{both}
 use Rattle.questions.specs.Laws.{Sized, sized, grouped, whole, exactly, accepted}
 use Rattle.pixels.specs.Edge.{hedge, vedge, edge_count}
 use Rattle.velocity.specs.Calls.{velocity_code}
 
--- a question that lets the call pass is answered yes
-pub asked : (b : Bool) (r : Refusal) {answer : Result (Unit {0}) Refusal} → answer ≡ Ok tt → answer ≡ cond b (Ok tt) (Err r) → b ≡ true
-asked true r is e = refl
-asked false r is e = cc
-
 -- sides of at least 2 pixels are an image's
 pub wide : {w h : ℕ} → Sized 2 w h → Sized 1 w h
 wide s = let l = s.w_least in let k = s.h_least in record { w_least = omega arith; w_most = s.w_most; h_least = omega arith; h_most = s.h_most }
+
+pub sized_wide : (w h : ℕ) → sizes 2 w h ≡ true → Sized 1 w h
+sized_wide w h e = wide (sized 2 w h e)
 
 pub record Ready (w h : ℕ) (hs vs xy velo : List Float) : Type 0 where
   pub size : Sized 2 w h

@@ -1,13 +1,12 @@
 -- What stands at the two places of a vertex.
-use Prim.Native.Nat.{ℕ, ◌+◌, ◌*◌, ◌/◌, ◌%◌, ◌<◌}
-use mathlib.Core.Path.{◌≡◌, sym, ap, ◌∙◌}
+use Prim.Native.Nat.{ℕ, ◌+◌, ◌*◌, ◌%◌, ◌<◌}
+use mathlib.Core.Path.{◌≡◌, ap}
 use mathlib.Core.List.{List}
 use native.Mathlib.Omega.{arith}
 use borrow.Author.Tests.{eq-eqb, ne_eqb}
 use lib.Ieee.{Float}
-use lib.ListN.{set, length, length-set}
-use Rattle.lists.specs.Laws.Tables.{stored, stored_more, stored_all}
-use Rattle.lists.specs.Lists.{tabulate}
+use lib.ListN.{set, length}
+use Rattle.lists.specs.Laws.Tables.{stored, stored_more}
 use Rattle.pixels.specs.Edge.{hedge, vedge}
 use Rattle.grids.specs.Grid.{sample}
 use Rattle.velocity.specs.Velocity.{point_at, velocity_at}

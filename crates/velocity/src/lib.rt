@@ -52,7 +52,7 @@ impl EdgeVelocities<'_> {
 }
 
 // Questions 1, 3 and 4.
-#[tactic(auto, unfolding(crate::specs::Calls::velocity_code, questions::specs::Questions::first_no, questions::specs::Questions::exact))]
+#[tactic(auto, using(crate::proofs::Calls::sized_wide), unfolding(crate::specs::Calls::velocity_code, questions::specs::Questions::first_no, questions::specs::Questions::exact))]
 fn ask_velocity(
     img_w: usize,
     img_h: usize,
