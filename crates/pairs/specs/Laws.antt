@@ -1,22 +1,25 @@
 -- Laws of the pairs.
-use Rattle.std.specs.Prelude.{ℕ, ◌-◌, ◌*◌, ◌/◌, ◌<◌, ◌≡◌, true, List, ltb, Float, length}
+use Rattle.std.specs.Prelude.{ℕ, zero, suc, ◌+◌, ◌*◌, ◌/◌, ◌<◌, ◌≡◌, refl, Bool, true, ◌&&◌, List, ltb, Float, length}
 use Rattle.std.proofs.Math.Bool.{or-true}
-use Rattle.std.proofs.Common.{arith, ne_eqb}
+use Rattle.std.proofs.Common.{sym, ◌∙◌, ap, ap₂, add-zero, zero-add, zero-mul, arith, ne_eqb}
+use Rattle.std.proofs.lemmas.List.Folds.{list_all-append}
+use Rattle.lists.specs.Lists.{tabulate, span, every}
+use Rattle.lists.specs.Laws.Tables.{tabulate-add}
 use Rattle.questions.specs.Questions.{exact, names_face, empty}
 use Rattle.questions.specs.Laws.{Channels, exactly}
 use Rattle.lists.specs.Laws.Tests.{both}
-use Rattle.lists.specs.Laws.Every.{every_any, all_pass}
+use Rattle.lists.specs.Laws.Every.{every_any, every_one, all_pass}
 use Rattle.meshes.specs.View.{entry_at, named, view_of}
 use Rattle.meshes.specs.Sound.{SoundMap}
-use Rattle.pixels.specs.Edge.{Axis, Edge, edge_count, edge_at}
-use Rattle.pixels.specs.Laws.{Walked, in_row, in_column}
+use Rattle.pixels.specs.Edge.{Axis, Edge, edge_count, edge_from, edge_at, per_row, rows}
+use Rattle.pixels.specs.Laws.{row-at, column-at}
 use Rattle.inside.specs.Inside.{projects}
 use Rattle.inside.specs.Laws.{entry-projects}
 use Rattle.inside.specs.Steps.{all_project}
 use Rattle.pairs.specs.declared.Pair.{Pair}
-use Rattle.pairs.specs.Pairs.{edge_view, first_of, second_of, equal_entries, answered, all_answered}
+use Rattle.pairs.specs.Pairs.{EdgeView, edge_view, first_of, second_of, equal_entries, answered, all_answered}
 use Rattle.pairs.specs.Gradient.{PixelValues, exact_pixels}
-use Rattle.pairs.specs.Steps.{SoundValues, Within, PairAt}
+use Rattle.pairs.specs.Steps.{SoundValues, PairAt, row_passes}
 
 -- question 4 of the map, the values and the gradients, answered yes
 pub pixels_exact : (w h : ℕ) (map : List ℕ) (v : PixelValues) → Channels v.channels → exact_pixels w h map v ≡ true → (length map ≡ w * h) × SoundValues v (w * h)
@@ -26,9 +29,54 @@ pixels_exact w h map v few e =
     let b = both (exact (w * h * v.channels) (length v.values)) _ a.1 in
     (exactly _ _ a.0, record { few = few; values = exactly _ _ b.0; gradients = exactly _ _ b.1 })
 
--- the pair at place i of an axis's walk lies in the image
-pub within-at : {i x y : ℕ} (w h right down : ℕ) → Walked (w - right) i x y → i < (h - down) * (w - right) → Within w h right down x y
-within-at w h right down k l = record { column = omega (arith, in_row (h - down) k l); row = omega (arith, in_column (h - down) k l) }
+-- ---- a test of every pair of an axis, row by row
+
+-- pair number x of row y
+pub edge_in_row : (a : Axis) (w x y : ℕ) → x < per_row a w → edge_at a w (y * per_row a w + x) ≡ edge_from a x y
+unfolding edge_at
+edge_in_row a w x y h = ap₂ (edge_from a) (column-at (per_row a w) y x h) (row-at (per_row a w) y x h)
+
+-- two tests that agree, from a on and from b on
+every_same : (t u : ℕ → Bool) (a b n : ℕ) → ((i : ℕ) → i < n → t (a + i) ≡ u (b + i)) → every t (span a n) ≡ every u (span b n)
+unfolding tabulate
+every_same t u a b zero e = refl
+every_same t u a b (suc n) e =
+    ap₂ ◌&&◌ (ap t (sym (add-zero a)) ∙ e 0 (omega arith) ∙ ap u (add-zero b))
+    (every_same t u (suc a) (suc b) n
+    (λ i h.
+    let k : suc a + i ≡ a + suc i = omega arith in
+    let l : b + suc i ≡ suc b + i = omega arith in
+    ap t k ∙ e (suc i) (omega arith) ∙ ap u l))
+
+every_both : (t : ℕ → Bool) (a n m : ℕ) → every t (span a (n + m)) ≡ every t (span a n) && every t (span (a + n) m)
+every_both t a n m = ap (every t) (tabulate-add (λ i. i) a n m) ∙ list_all-append t (span a n) (span (a + n) m)
+
+module _ (test : Edge → Bool) (a : Axis) (w : ℕ) where
+  row-passes : (y : ℕ) → every (λ i. test (edge_at a w i)) (span (0 + y * per_row a w) (per_row a w)) ≡ row_passes test a w y
+  unfolding row_passes
+  row-passes y =
+      every_same (λ i. test (edge_at a w i)) (λ x. test (edge_from a x y)) (0 + y * per_row a w) 0 (per_row a w)
+      (λ x h.
+      let k : 0 + y * per_row a w + x ≡ y * per_row a w + x = omega arith in
+      let j : x ≡ 0 + x = omega arith in
+      ap (λ (i : ℕ). test (edge_at a w i)) k ∙ ap test (edge_in_row a w x y h) ∙ ap (λ (i : ℕ). test (edge_from a i y)) j)
+
+  pub by_rows : (m : ℕ) → every (λ i. test (edge_at a w i)) (span 0 (m * per_row a w)) ≡ every (row_passes test a w) (span 0 m)
+  unfolding tabulate
+  by_rows zero = ap (λ (n : ℕ). every (λ i. test (edge_at a w i)) (span 0 n)) (zero-mul (per_row a w))
+  by_rows (suc m) =
+      let n = per_row a w in
+      let e : suc m * n ≡ m * n + n = omega arith in
+      let f : suc m ≡ m + 1 = omega arith in
+      ap (λ (k : ℕ). every (λ i. test (edge_at a w i)) (span 0 k)) e
+      ∙ every_both (λ i. test (edge_at a w i)) 0 (m * n) n
+      ∙ ap₂ ◌&&◌ (by_rows m) (row-passes m ∙ sym (every_one (row_passes test a w) m) ∙ ap (λ (k : ℕ). every (row_passes test a w) (span k 1)) (sym (zero-add m)))
+      ∙ sym (every_both (row_passes test a w) 0 m 1)
+      ∙ ap (λ (k : ℕ). every (row_passes test a w) (span 0 k)) (sym f)
+
+pub answered_by_rows : (a : Axis) (h : ℕ) (s : EdgeView) → all_answered a h s ≡ every (row_passes (answered s) a s.width) (span 0 (rows a h))
+unfolding all_answered
+answered_by_rows a h s = by_rows (answered s) a s.width (rows a h)
 
 empty-named : (n : ℕ) → names_face n empty ≡ true
 unfolding names_face

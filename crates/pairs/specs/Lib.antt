@@ -2,5 +2,7 @@
 pub mod Pairs
 pub mod Gradient
 pub mod Steps
+pub mod Answer
+pub mod Values
 -- proved of the definitions above
 pub mod Laws

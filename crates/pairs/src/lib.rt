@@ -1,16 +1,18 @@
-// Pairs of neighbouring pixels, as both edge passes ask of them. `right` and `down` lead from a pair's first pixel to its second.
+// Pairs of neighbouring pixels, as both edge passes ask of them: each by its first pixel and the axis along which its second one lies.
 // No function here is a public call.
 #![tactic(auto)]
 
-ghost use Rattle.std.specs.Prelude.{◌≡◌, ◌+◌, ◌*◌, ◌≤◌, ◌<◌, length};
-ghost use Rattle.questions.specs.Laws.{Sized, Channels};
-ghost use Rattle.meshes.specs.View.{view_of};
-ghost use Rattle.meshes.specs.Sound.{SoundMap};
-ghost use Rattle.pixels.specs.Edge.{axis, edge_from};
-ghost use Rattle.pairs.specs.Pairs.{edge_view, answered, all_answered, both_answered};
+ghost use Rattle.std.specs.Prelude.{◌≡◌, true, ◌+◌, ◌-◌, ◌*◌, ◌/◌, ◌≤◌, ◌<◌, length};
+ghost use Rattle.questions.specs.Questions.{names_face};
+ghost use Rattle.questions.specs.Laws.{Channels};
+ghost use Rattle.pairs.specs.Pairs.{answered, all_answered, both_answered};
 ghost use Rattle.pairs.specs.Gradient as gradient;
 ghost use Rattle.pairs.specs.Gradient.{pixel_values, exact_pixels, channel_term};
-ghost use Rattle.pairs.specs.Steps.{SoundValues, Within, PairAt};
+ghost use Rattle.pairs.specs.Steps.{SoundValues, Within, PairAt, row_passes};
+ghost use Rattle.pairs.specs.Answer.{axis_of, edge_of, seen_of};
+
+use meshes::View;
+use pixels::{Axis, ImageSize, Pixel};
 
 // The numbers of a pair's pixels, and their entries in the map.
 #[derive(Clone, Copy)]
@@ -21,170 +23,136 @@ pub struct Pair {
     pub second: u32,
 }
 
-// The pair whose first pixel is (x, y).
-pub fn pair_at(
-    img_w: usize,
-    img_h: usize,
-    pix2tri: &[u32],
-    x: usize,
-    y: usize,
-    right: usize,
-    down: usize,
-) -> Pair
-    requires sized { Sized 1 img_w img_h }
-    requires pix2tri_len { length «pix2tri».now ≡ img_w * img_h }
-    requires within { Within img_w img_h right down x y }
-    ensures { PairAt «pix2tri».now img_w img_h (edge_from (axis right down) x y) result }
+// The second pixel of the pair whose first pixel is p.
+pub fn neighbour(p: Pixel, axis: Axis) -> Pixel
+    requires column { p.x ≤ 4096 }
+    requires row { p.y ≤ 4096 }
+    ensures column { result.x ≡ p.x + axis.right }
+    ensures row { result.y ≡ p.y + axis.down }
 {
-    let p = pixels::number(img_w, img_h, x, y);
-    let q = pixels::number(img_w, img_h, x + right, y + down);
+    Pixel {
+        x: p.x + axis.right,
+        y: p.y + axis.down,
+    }
+}
+
+// The pair whose first pixel is p.
+#[tactic(auto, using(meshes::specs::Laws::entry_read))]
+pub fn pair_at(view: &View, p: Pixel, axis: Axis) -> Pair
+    requires { Within view.now.size.w view.now.size.h axis.right axis.down p.x p.y }
+    ensures pair { PairAt view.now.pix2tri.now view.now.size.w view.now.size.h (edge_of axis p) result }
+    ensures first_named { names_face (length view.now.mesh.tri2vtx.now / 3) result.first ≡ true }
+    ensures second_named { names_face (length view.now.mesh.tri2vtx.now / 3) result.second ≡ true }
+{
+    let q = neighbour(p, axis);
     Pair {
-        p,
-        q,
-        first: pix2tri[p],
-        second: pix2tri[q],
+        p: view.size.number(p),
+        q: view.size.number(q),
+        first: view.entry(p),
+        second: view.entry(q),
     }
 }
 
-// Question 8 of the pair whose first pixel is (x, y).
-fn pair_answered(
-    tri2vtx: &[u32],
-    vtx2xyz: &[f32],
-    m: &[f32; 16],
-    img_w: usize,
-    img_h: usize,
-    pix2tri: &[u32],
-    x: usize,
-    y: usize,
-    right: usize,
-    down: usize,
-) -> bool
-    requires sound_map { SoundMap «tri2vtx».now «vtx2xyz».now «pix2tri».now img_w img_h }
-    requires within { Within img_w img_h right down x y }
-    ensures { result ≡ answered (edge_view (view_of «tri2vtx».now «pix2tri».now) m.now «vtx2xyz».now img_w)
-        (edge_from (axis right down) x y) }
+// Question 8 of the pair whose first pixel is p.
+#[tactic(auto, unfolding(crate::specs::Pairs::answered))]
+fn pair_answered(view: &View, p: Pixel, axis: Axis) -> bool
+    requires { Within view.now.size.w view.now.size.h axis.right axis.down p.x p.y }
+    ensures { result ≡ answered (seen_of view.now) (edge_of axis p) }
 {
-    let pair = pair_at(img_w, img_h, pix2tri, x, y, right, down);
-    if pair.first == pair.second {
-        return true;
-    }
-    if !inside::projects(tri2vtx, vtx2xyz, m, pair.first) {
-        return false;
-    }
-    inside::projects(tri2vtx, vtx2xyz, m, pair.second)
+    let pair = pair_at(view, p, axis);
+    pair.first == pair.second
+        || inside::projects(&view.mesh, view.m, view.mesh.named(pair.first))
+            && inside::projects(&view.mesh, view.m, view.mesh.named(pair.second))
 }
 
-// Question 8 of an axis, pair by pair, row by row.
-fn all_answered(
-    tri2vtx: &[u32],
-    vtx2xyz: &[f32],
-    m: &[f32; 16],
-    img_w: usize,
-    img_h: usize,
-    pix2tri: &[u32],
-    right: usize,
-    down: usize,
-) -> bool
-    requires sound_map { SoundMap «tri2vtx».now «vtx2xyz».now «pix2tri».now img_w img_h }
-    requires right_bound { (right ≤ 1) × (down ≤ 1) }
-    ensures { result ≡ all_answered (axis right down) img_h
-        (edge_view (view_of «tri2vtx».now «pix2tri».now) m.now «vtx2xyz».now img_w) }
+// Question 8 of the pairs whose first pixels lie in row y.
+#[tactic(auto, using(lists::specs::Laws::Every::every_none, lists::specs::Laws::Every::every_next), unfolding(crate::specs::Steps::row_passes))]
+fn row_answered(view: &View, axis: Axis, y: usize) -> bool
+    requires { y + axis.down < view.now.size.h }
+    ensures { result ≡ row_passes (answered (seen_of view.now)) (axis_of axis) view.now.size.w y }
 {
-    let columns = img_w - right;
-    let n = (img_h - down) * columns;
-    let mut x = 0;
-    let mut y = 0;
-    let mut i = 0;
-    while i < n {
-        if !pair_answered(
-            tri2vtx, vtx2xyz, m, img_w, img_h, pix2tri, x, y, right, down,
-        ) {
+    for x in 0..view.size.w - axis.right {
+        if !pair_answered(view, Pixel { x, y }, axis) {
             return false;
         }
-        let next = pixels::next(x, y, columns);
-        x = next.x;
-        y = next.y;
-        i += 1;
+    }
+    true
+}
+
+// Question 8 of an axis, row by row.
+#[tactic(auto, using(lists::specs::Laws::Every::every_none, lists::specs::Laws::Every::every_next))]
+fn all_answered(view: &View, axis: Axis) -> bool
+    ensures { result ≡ all_answered (axis_of axis) view.now.size.h (seen_of view.now) }
+{
+    for y in 0..view.size.h - axis.down {
+        if !row_answered(view, axis, y) {
+            return false;
+        }
     }
     true
 }
 
 // Question 8 of both axes. It is answered yes where every vertex has a projection, which is quickly seen.
-pub fn both_answered(
-    tri2vtx: &[u32],
-    vtx2xyz: &[f32],
-    m: &[f32; 16],
-    img_w: usize,
-    img_h: usize,
-    pix2tri: &[u32],
-) -> bool
-    requires { SoundMap «tri2vtx».now «vtx2xyz».now «pix2tri».now img_w img_h }
-    ensures { result ≡ both_answered img_h
-        (edge_view (view_of «tri2vtx».now «pix2tri».now) m.now «vtx2xyz».now img_w) }
+#[tactic(auto, using(crate::specs::Laws::all_projected))]
+pub fn both_answered(view: &View) -> bool
+    ensures { result ≡ both_answered view.now.size.h (seen_of view.now) }
 {
-    if inside::all_project(vtx2xyz, m) {
-        return true;
-    }
-    if !all_answered(tri2vtx, vtx2xyz, m, img_w, img_h, pix2tri, 0, 1) {
-        return false;
-    }
-    all_answered(tri2vtx, vtx2xyz, m, img_w, img_h, pix2tri, 1, 0)
+    inside::all_project(&view.mesh, view.m)
+        || all_answered(view, Axis::HEDGE) && all_answered(view, Axis::VEDGE)
 }
 
 // Question 4 of the map, the values and the gradients.
+#[tactic(auto, using(questions::specs::Laws::area_fits), unfolding(crate::specs::Gradient::exact_pixels, questions::specs::Questions::exact))]
 pub fn pixels_ok(
-    img_w: usize,
-    img_h: usize,
+    size: ImageSize,
     pix2tri: &[u32],
     num_vdim: usize,
     pix2val: &[f32],
     dldw_pix2val: &[f32],
 ) -> bool
-    requires sized { Sized 1 img_w img_h }
-    requires channels { Channels num_vdim }
-    ensures { result ≡ exact_pixels img_w img_h «pix2tri».now (pixel_values «pix2val».now dldw_pix2val.now num_vdim) }
+    requires { Channels num_vdim }
+    ensures { result ≡ exact_pixels size.w size.h «pix2tri».now (pixel_values «pix2val».now dldw_pix2val.now num_vdim) }
 {
-    let n = img_w * img_h;
-    if pix2tri.len() != n {
-        return false;
-    }
-    if pix2val.len() != n * num_vdim {
-        return false;
-    }
-    dldw_pix2val.len() == n * num_vdim
+    let n = size.pixels();
+    pix2tri.len() == n && pix2val.len() == n * num_vdim && dldw_pix2val.len() == n * num_vdim
 }
 
-// Channel k of `dldr`, of the pixels whose channels begin at `at0` and `at1`.
-fn term_at(pix2val: &[f32], dldw_pix2val: &[f32], at0: usize, at1: usize, k: usize) -> f32
-    requires k_in_bounds { (at0 + k < length «pix2val».now) × (at1 + k < length «pix2val».now) }
-    requires dldw_pix2val_len { length dldw_pix2val.now ≡ length «pix2val».now }
-    ensures { result ≡ channel_term dldw_pix2val.now «pix2val».now (at0 + k) (at1 + k) }
-{
-    let i0 = at0 + k;
-    let i1 = at1 + k;
-    (dldw_pix2val[i0] + dldw_pix2val[i1]) * 0.5 * (pix2val[i0] - pix2val[i1])
+// The values that so many pixels show, and their gradients: `num_vdim` numbers a pixel of each.
+#[derive(Clone, Copy)]
+pub struct PixelValues<'a> {
+    pub pixels: usize,
+    pub num_vdim: usize,
+    pub pix2val: &'a [f32],
+    pub dldw_pix2val: &'a [f32],
+    pub ghost sound: { SoundValues (pixel_values pix2val.now dldw_pix2val.now num_vdim) pixels },
 }
 
-// `dldr` of the pixels p and q of n.
-pub fn dldr(
-    pix2val: &[f32],
-    dldw_pix2val: &[f32],
-    num_vdim: usize,
-    p: usize,
-    q: usize,
-    n: usize,
-) -> f32
-    requires sound_values { SoundValues (pixel_values «pix2val».now dldw_pix2val.now num_vdim) n }
-    requires p_lt_n { (p < n) × (q < n) }
-    ensures { result ≡ gradient.dldr (pixel_values «pix2val».now dldw_pix2val.now num_vdim) p q }
-{
-    let at0 = p * num_vdim;
-    let at1 = q * num_vdim;
-    let mut sum = 0.0;
-    let mut k = 0;
-    while k < num_vdim {
-        sum = sum + term_at(pix2val, dldw_pix2val, at0, at1, k);
-        k += 1;
+impl PixelValues<'_> {
+    ghost use Rattle.pairs.specs.Values.{values_of};
+
+    // Channel k of `dldr`, at the places i and j of the values and the gradients.
+    #[tactic(auto, unfolding(crate::specs::Gradient::channel_term))]
+    fn channel_term(&self, i: usize, j: usize) -> f32
+        requires first { i < length self.now.pix2val.now }
+        requires second { j < length self.now.pix2val.now }
+        ensures { result ≡ channel_term self.now.dldw_pix2val.now self.now.pix2val.now i j }
+    {
+        (self.dldw_pix2val[i] + self.dldw_pix2val[j]) * 0.5 * (self.pix2val[i] - self.pix2val[j])
     }
-    sum
+
+    // `dldr` of the pixels p and q.
+    #[tactic(auto, unfolding(crate::specs::Gradient::dldr, geometry::specs::Formula::sum_of))]
+    pub fn dldr(&self, p: usize, q: usize) -> f32
+        requires first { p < self.now.pixels }
+        requires second { q < self.now.pixels }
+        ensures { result ≡ gradient.dldr (values_of self.now) p q }
+    {
+        let at0 = p * self.num_vdim;
+        let at1 = q * self.num_vdim;
+        let mut sum = 0.0;
+        for k in 0..self.num_vdim {
+            sum += self.channel_term(at0 + k, at1 + k);
+        }
+        sum
+    }
 }
