@@ -1,19 +1,17 @@
-use mathlib.Core.Path.{◌∙◌, sym}
-use native.Mathlib.Omega.{arith}
-use Rattle.questions.specs.Laws.{area}
+-- `layers::clear`: refused, nothing is written; accepted, all is.
+use Rattle.std.proofs.Common.{rules, sym}
 use Rattle.layers.proofs.Laws.Answers.{clear_accepted}
 use Rattle.layers.proofs.Calls.{clear_refused, clear_done}
 use Rattle.layers.proofs.clear.Goals as goal
 
-pub returns-then-code-ne0 : goal.returns-then-code-ne0
-returns-then-code-ne0 c = clear_refused _ _ _ _ c.clear_code-code.ensures c.if-code-ne0.true
+pub returns-in_err-ask_clear : goal.returns-in_err-ask_clear
+returns-in_err-ask_clear c = search (rules, clear_refused)
 
-pub overflow_mul-img_w : goal.overflow_mul-img_w
-overflow_mul-img_w c = let k = clear_accepted _ _ _ (sym c.clear_code-code.ensures ∙ c.if-code-ne0.false) in
-    record { fits = omega (arith, area 1 _ _ k.0) }
+pub invariant_of-size : goal.invariant_of-size
+invariant_of-size c = record { sized = (clear_accepted _ _ _ (sym c.in_ok-ask_clear.ensures)).0 }
 
-pub clear_pixels-requires : goal.clear_pixels-requires
-clear_pixels-requires c = (clear_accepted _ _ _ (sym c.clear_code-code.ensures ∙ c.if-code-ne0.false)).1
+pub invariant_of-layer : goal.invariant_of-layer
+invariant_of-layer c = record { spans = (clear_accepted _ _ _ (sym c.in_ok-ask_clear.ensures)).1 }
 
 pub returns : goal.returns
-returns c = clear_done _ _ _ _ _ c.clear_code-code.ensures c.if-code-ne0.false c.clear_pixels.ensures
+returns c = clear_done _ _ _ _ c.in_ok-ask_clear.ensures (search rules)

@@ -1,19 +1,20 @@
-use mathlib.Core.Path.{◌∙◌, sym}
-use native.Mathlib.Omega.{arith}
-use Rattle.questions.specs.Laws.{area}
+-- `layers::join`: refused, nothing is written; accepted, every pixel is picked.
+use Rattle.std.proofs.Common.{rules, sym}
 use Rattle.layers.proofs.Laws.Answers.{join_accepted}
 use Rattle.layers.proofs.Calls.{join_refused, join_done}
 use Rattle.layers.proofs.join.Goals as goal
 
-pub returns-then-code-ne0 : goal.returns-then-code-ne0
-returns-then-code-ne0 c = join_refused _ _ _ _ _ c.join_code-code.ensures c.if-code-ne0.true
+pub returns-in_err-ask_join : goal.returns-in_err-ask_join
+returns-in_err-ask_join c = search (rules, join_refused)
 
-pub overflow_mul-img_w : goal.overflow_mul-img_w
-overflow_mul-img_w c = let k = join_accepted _ _ _ _ (sym c.join_code-code.ensures ∙ c.if-code-ne0.false) in
-    record { fits = omega (arith, area 1 _ _ k.0) }
+pub invariant_of-size : goal.invariant_of-size
+invariant_of-size c = record { sized = (join_accepted _ _ _ _ (sym c.in_ok-ask_join.ensures)).0 }
 
-pub join_pixels-requires : goal.join_pixels-requires
-join_pixels-requires c = let k = join_accepted _ _ _ _ (sym c.join_code-code.ensures ∙ c.if-code-ne0.false) in record { spans = k.1; spans_2 = k.2 }
+pub invariant_of-left : goal.invariant_of-left
+invariant_of-left c = record { spans = (join_accepted _ _ _ _ (sym c.in_ok-ask_join.ensures)).1 }
+
+pub join-requires : goal.join-requires
+join-requires c = record { spans = (join_accepted _ _ _ _ (sym c.in_ok-ask_join.ensures)).2 }
 
 pub returns : goal.returns
-returns c = join_done _ _ _ _ _ _ c.join_code-code.ensures c.if-code-ne0.false c.join_pixels.ensures
+returns c = join_done _ _ _ _ _ c.in_ok-ask_join.ensures (search rules)
