@@ -3,7 +3,6 @@
 
 ghost use Rattle.std.specs.Prelude.{◌≡◌, ◌<◌, cond, Ok, Err};
 ghost use Rattle.questions.specs.Questions.{first_no, sizes, channels, groups, slices, bounded, numbers, all_below, names_face, names_faces, opening, naming};
-ghost use Rattle.questions.specs.Laws.{Sized};
 ghost use Rattle.questions.specs.Answer.{number_of, code_of};
 
 use std::fmt;
@@ -20,6 +19,22 @@ pub enum Refusal {
     Faces = 7,
     Projections = 8,
     Weights = 9,
+}
+
+impl fmt::Display for Refusal {
+    fn fmt<W: fmt::Write>(&self, f: &mut fmt::Formatter<W>) -> fmt::Result {
+        f.write_str(match self {
+            Refusal::Size => "the width or the height is out of bounds",
+            Refusal::Channels => "there are not from 1 to 16 channels per pixel",
+            Refusal::Slices => "a slice does not hold whole groups of numbers, or holds too many",
+            Refusal::Lengths => "a buffer does not have its exact length",
+            Refusal::Numbers => "the first number plus the face count is above 1,048,576",
+            Refusal::Vertices => "a face names a vertex that is not there",
+            Refusal::Faces => "the map names a face that is not there",
+            Refusal::Projections => "a projection that the pass needs has no answer",
+            Refusal::Weights => "the weights of a point that the pass needs have no answer",
+        })
+    }
 }
 
 impl From<Refusal> for u32 {
@@ -55,14 +70,6 @@ pub const MOST_COUNT: usize = 1048576;
 
 // The map's entry of a pixel that shows no face.
 pub const EMPTY: u32 = 4294967295;
-
-// The width and height of an image.
-#[derive(Clone, Copy)]
-pub struct ImageSize {
-    pub w: usize,
-    pub h: usize,
-    pub ghost sized: { Sized 1 w h },
-}
 
 // Question 1: are width and height from `least` to 4,096?
 #[tactic(auto, unfolding(crate::specs::Questions::sizes))]
@@ -105,11 +112,11 @@ pub fn count_ok(faces: usize) -> bool
 }
 
 // Question 5: is `first` plus `faces` at most 1,048,576? The sum is not formed, so it cannot wrap.
-#[tactic(auto, unfolding(crate::specs::Questions::numbers))]
+#[tactic(auto, unfolding(crate::specs::Questions::numbers, crate::specs::Questions::bounded))]
 pub fn numbers_ok(first: u32, faces: usize) -> bool
     ensures { result ≡ numbers first faces }
 {
-    faces <= MOST_COUNT && first as usize <= MOST_COUNT - faces
+    count_ok(faces) && first as usize <= MOST_COUNT - faces
 }
 
 // Question 6: is every vertex number below `count`?
