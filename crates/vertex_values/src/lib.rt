@@ -1,87 +1,96 @@
-// What both values passes ask before they write. Nothing here writes, and no function here is a public call.
+// What both values passes ask before they write, and what they know then. Nothing here writes, and no function here is a public call.
 #![tactic(auto)]
 
-ghost use Rattle.std.specs.Prelude.{◌≡◌, ◌*◌, ◌≤◌, length};
-ghost use Rattle.questions.specs.Questions.{first_no, most_count};
-ghost use Rattle.questions.specs.Laws.{Sized, Channels};
+ghost use Rattle.std.specs.Prelude.{◌≡◌, ◌*◌, ◌/◌, ◌<◌, ◌≤◌, true, length, IfOk};
+ghost use Rattle.questions.specs.Questions.{most_count};
+ghost use Rattle.questions.specs.Laws.{Channels};
+ghost use Rattle.meshes.specs.View.{view_of};
 ghost use Rattle.pixel_rays.specs.Rays.{image};
 ghost use Rattle.vertex_values.specs.Pass.{vertices};
-ghost use Rattle.vertex_values.specs.Questions.{exact_counts, closing, pass_code};
+ghost use Rattle.vertex_values.specs.Questions.{exact_counts, pass_code};
+
+use meshes::{Mesh, View};
+use pixels::ImageSize;
+use questions::{Refusal, ask};
+
+// What both passes are lent, once their questions are answered yes: a view, and `num_vdim` values for each vertex of its mesh.
+#[derive(Clone, Copy)]
+pub struct Pass<'a> {
+    pub view: View<'a>,
+    pub num_vdim: usize,
+    pub vtx2val: &'a [f32],
+    pub ghost channels: { Channels num_vdim },
+    pub ghost valued: { length vtx2val.now ≡ length view.mesh.vtx2xyz.now / 3 * num_vdim },
+}
 
 // Question 4 of the buffers that both passes are lent, by their lengths.
+#[tactic(auto, using(crate::specs::Laws::few_fits, questions::specs::Laws::area_fits), unfolding(questions::specs::Questions::exact, crate::specs::Questions::exact_counts))]
 fn exact_ok(
-    w: usize,
-    h: usize,
+    size: ImageSize,
     c: usize,
     vertices: usize,
     map: usize,
     val: usize,
     pixels: usize,
 ) -> bool
-    requires sized { Sized 1 w h }
     requires channels { Channels c }
-    requires vertices_le_most_count { vertices ≤ most_count }
-    ensures { result ≡ exact_counts w h c vertices map val pixels }
+    requires vertices_few { vertices ≤ most_count }
+    ensures { result ≡ exact_counts size.w size.h c vertices map val pixels }
 {
-    let n = w * h;
-    if map != n {
-        return false;
-    }
-    if val != vertices * c {
-        return false;
-    }
-    pixels == n * c
+    let n = size.pixels();
+    map == n && val == vertices * c && pixels == n * c
 }
 
-// Questions 6 to 8.
-fn closing_code(
-    w: usize,
-    h: usize,
-    m: &[f32; 16],
-    vertices: usize,
-    tri2vtx: &[u32],
-    pix2tri: &[u32],
-) -> u32
-    requires sized { Sized 1 w h }
-    requires pix2tri_len { length pix2tri.now ≡ w * h }
-    ensures { result ≡ first_no (closing (image w h m.now) vertices tri2vtx.now pix2tri.now) }
-{
-    let code = questions::naming_code(vertices, tri2vtx, pix2tri);
-    if code != 0 {
-        return code;
-    }
-    if !pixel_rays::rays_ok(w, h, m, pix2tri) {
-        return 8;
-    }
-    0
-}
+impl<'a> Pass<'a> {
+    ghost use Rattle.vertex_values.specs.Pass.{value_of};
+    ghost use Rattle.vertex_values.specs.Answer.{refusal_of, vertices_of, Lent};
 
-// The questions of a pass with a buffer of `pixels` numbers for its pixels; `others`: have the buffers that it alone is lent the exact length?
-pub fn pass_code(
-    w: usize,
-    h: usize,
-    pix2tri: &[u32],
-    tri2vtx: &[u32],
-    vtx2xyz: &[f32],
-    c: usize,
-    vtx2val: &[f32],
-    m: &[f32; 16],
-    pixels: usize,
-    others: bool,
-) -> u32
-    ensures { result ≡ pass_code (image w h m.now) (vertices vtx2xyz.now c vtx2val.now)
-        tri2vtx.now pix2tri.now pixels others }
-{
-    let code = questions::opening_code(w, h, c, tri2vtx.len(), vtx2xyz.len());
-    if code != 0 {
-        return code;
+    // The questions of a pass with a buffer of `pixels` numbers for its pixels; `others`: have the buffers that it alone is lent the exact length?
+    #[tactic(auto, unfolding(questions::specs::Questions::first_no, crate::specs::Questions::pass_code))]
+    pub fn ask(
+        w: usize,
+        h: usize,
+        pix2tri: &'a [u32],
+        tri2vtx: &'a [u32],
+        vtx2xyz: &'a [f32],
+        num_vdim: usize,
+        vtx2val: &'a [f32],
+        m: &'a [f32; 16],
+        pixels: usize,
+        others: bool,
+    ) -> Result<Pass<'a>, Refusal>
+        ensures code { refusal_of result ≡ pass_code (image w h m.now) (vertices vtx2xyz.now num_vdim vtx2val.now) tri2vtx.now pix2tri.now pixels others }
+        ensures lent { IfOk result (λ p. Lent p (image w h m.now) (vertices vtx2xyz.now num_vdim vtx2val.now) (view_of tri2vtx.now pix2tri.now) pixels) }
+        ensures exact { IfOk result (λ p. others ≡ true) }
+    {
+        questions::ask_opening(w, h, num_vdim, tri2vtx.len(), vtx2xyz.len())?;
+        let size = ImageSize { w, h };
+        let count = vtx2xyz.len() / 3;
+        let exact = exact_ok(size, num_vdim, count, pix2tri.len(), vtx2val.len(), pixels);
+        ask(exact && others, Refusal::Lengths)?;
+        questions::ask_naming(count, tri2vtx, pix2tri)?;
+        let mesh = Mesh { tri2vtx, vtx2xyz };
+        let view = View {
+            size,
+            mesh,
+            pix2tri,
+            m,
+        };
+        ask(pixel_rays::rays_ok(&view), Refusal::Projections)?;
+        Ok(Pass {
+            view,
+            num_vdim,
+            vtx2val,
+        })
     }
-    let count = vtx2xyz.len() / 3;
-    if !exact_ok(w, h, c, count, pix2tri.len(), vtx2val.len(), pixels) {
-        return 4;
+
+    // Channel j of vertex v.
+    #[tactic(auto, using(crate::specs::Laws::value_there))]
+    pub fn value(&self, v: usize, j: usize) -> f32
+        requires vertex { v < length self.now.view.mesh.vtx2xyz.now / 3 }
+        requires channel { j < self.now.num_vdim }
+        ensures { result ≡ value_of (vertices_of self.now) v j }
+    {
+        self.vtx2val[v * self.num_vdim + j]
     }
-    if !others {
-        return 4;
-    }
-    closing_code(w, h, m, count, tri2vtx, pix2tri)
 }
