@@ -1,3 +1,3 @@
 -- laws that the proofs share
-pub mod Tests
 pub mod Filling
+pub mod Kept

@@ -1,113 +1,79 @@
-// The type of a pair of neighbouring pixels, and the loop over an axis's pairs, row by row. `right` and `down` lead from a pair's first pixel
-// to its second. No function here is a public call.
+// The type of a pair of neighbouring pixels, and the loop over an axis's pairs, row by row. No function here is a public call.
 #![tactic(auto)]
 
-ghost use Rattle.std.specs.Prelude.{◌≡◌, true, ◌||◌, ◌*◌, ◌/◌, ◌≤◌, length};
+mod buffers;
+
+ghost use Rattle.std.specs.Prelude.{◌≡◌, true, ◌||◌, ◌+◌, ◌*◌, ◌/◌, ◌<◌, length};
 ghost use Rattle.questions.specs.Questions.{names_face};
 ghost use Rattle.geometry.specs.Answer.{point2};
-ghost use Rattle.meshes.specs.View.{named, view_of};
-ghost use Rattle.meshes.specs.Sound.{SoundMesh, SoundMap};
-ghost use Rattle.pixels.specs.Edge.{axis, edge_from};
+ghost use Rattle.meshes.specs.View.{named};
+ghost use Rattle.pixels.specs.Edge.{edge_count};
 ghost use Rattle.inside.specs.Inside.{all_inside, contains};
-ghost use Rattle.pairs.specs.Pairs.{edge_view};
-ghost use Rattle.pairs.specs.Gradient.{pixel_values};
-ghost use Rattle.pairs.specs.Steps.{SoundValues, Within};
+ghost use Rattle.pairs.specs.Steps.{Within};
+ghost use Rattle.pairs.specs.Answer.{axis_of, edge_of, seen_of};
+ghost use Rattle.pairs.specs.Values.{values_of};
 ghost use Rattle.edge_types.specs.Types.{type_of};
-ghost use Rattle.edge_types.specs.Axis.{axis_buffers, edges_of, SoundAxis};
+ghost use Rattle.edge_types.specs.Axis.{edges_of};
+ghost use Rattle.edge_types.specs.Steps.{row_filled};
+ghost use Rattle.edge_types.specs.Lent.{held, SameBuffers};
 
+pub use buffers::AxisBuffers;
 use geometry::Vec2;
+use meshes::View;
+use pairs::{Pair, PixelValues};
+use pixels::{Axis, Pixel};
 
-// Is at least one centre inside what the other pixel shows? q0 is the centre of the first entry's pixel.
-fn one_inside(
-    tri2vtx: &[u32],
-    vtx2xyz: &[f32],
-    m: &[f32; 16],
-    first: u32,
-    second: u32,
-    q0: Vec2,
-    q1: Vec2,
-) -> bool
-    requires sound_mesh { SoundMesh tri2vtx.now vtx2xyz.now }
-    requires first_value { names_face (length tri2vtx.now / 3) first ≡ true }
-    requires second_value { names_face (length tri2vtx.now / 3) second ≡ true }
-    ensures { result ≡ (contains all_inside m.now vtx2xyz.now (named tri2vtx.now second) (point2 q0)
-        || contains all_inside m.now vtx2xyz.now (named tri2vtx.now first) (point2 q1)) }
+// Is at least one of two pixels' centres inside what the other pixel shows? q0 is the first one's.
+fn one_inside(view: &View, pair: Pair, q0: Vec2, q1: Vec2) -> bool
+    requires first { names_face (length view.now.mesh.tri2vtx.now / 3) pair.first ≡ true }
+    requires second { names_face (length view.now.mesh.tri2vtx.now / 3) pair.second ≡ true }
+    ensures { result ≡ (contains all_inside view.now.m.now view.now.mesh.vtx2xyz.now (named view.now.mesh.tri2vtx.now pair.second) (point2 q0)
+        || contains all_inside view.now.m.now view.now.mesh.vtx2xyz.now (named view.now.mesh.tri2vtx.now pair.first) (point2 q1)) }
 {
-    if inside::contains(tri2vtx, vtx2xyz, m, second, q0) {
-        return true;
-    }
-    inside::contains(tri2vtx, vtx2xyz, m, first, q1)
+    inside::contains(&view.mesh, view.m, view.mesh.named(pair.second), q0)
+        || inside::contains(&view.mesh, view.m, view.mesh.named(pair.first), q1)
 }
 
-// The type of the pair whose first pixel is (x, y).
-fn edge_type(
-    tri2vtx: &[u32],
-    vtx2xyz: &[f32],
-    m: &[f32; 16],
-    img_w: usize,
-    img_h: usize,
-    pix2tri: &[u32],
-    x: usize,
-    y: usize,
-    right: usize,
-    down: usize,
-) -> u8
-    requires sound_map { SoundMap «tri2vtx».now «vtx2xyz».now «pix2tri».now img_w img_h }
-    requires within { Within img_w img_h right down x y }
-    ensures { result ≡ type_of (edge_view (view_of «tri2vtx».now «pix2tri».now) m.now «vtx2xyz».now img_w)
-        (edge_from (axis right down) x y) }
+// The type of the pair whose first pixel is p.
+#[tactic(auto, unfolding(crate::specs::Types::type_of, crate::specs::Types::first_in_second, crate::specs::Types::second_in_first))]
+fn edge_type(view: &View, p: Pixel, axis: Axis) -> u8
+    requires { Within view.now.size.w view.now.size.h axis.right axis.down p.x p.y }
+    ensures { result ≡ type_of (seen_of view.now) (edge_of axis p) }
 {
-    let pair = pairs::pair_at(img_w, img_h, pix2tri, x, y, right, down);
+    let pair = pairs::pair_at(view, p, axis);
     if pair.first == pair.second {
         return 0;
     }
-    let q0 = pixels::centre_of(x, y);
-    let q1 = pixels::centre_of(x + right, y + down);
-    if one_inside(tri2vtx, vtx2xyz, m, pair.first, pair.second, q0, q1) {
-        return 1;
+    let q0 = pixels::centre_of(p);
+    let q1 = pixels::centre_of(pairs::neighbour(p, axis));
+    u8::from(one_inside(view, pair, q0, q1))
+}
+
+// The type and `dldr` of the pairs of an axis whose first pixels lie in row y.
+fn fill_row(view: &View, values: &PixelValues, buffers: &mut AxisBuffers, axis: Axis, y: usize)
+    requires pixels { values.now.pixels ≡ view.now.size.w * view.now.size.h }
+    requires count { length buffers.old.types.now ≡ edge_count (axis_of axis) view.now.size.w view.now.size.h }
+    requires row { y + axis.down < view.now.size.h }
+    ensures same { SameBuffers buffers.old buffers.new }
+    ensures filled { held buffers.new ≡ row_filled (axis_of axis) y (seen_of view.now) (values_of values.now) (held buffers.old) }
+{
+    let columns = view.size.w - axis.right;
+    for x in 0..columns {
+        let p = Pixel { x, y };
+        let pair = pairs::pair_at(view, p, axis);
+        let dldr = values.dldr(pair.p, pair.q);
+        buffers.put(y * columns + x, edge_type(view, p, axis), dldr);
     }
-    0
 }
 
 // The type and `dldr` of every pair of an axis.
-pub fn fill_axis(
-    tri2vtx: &[u32],
-    vtx2xyz: &[f32],
-    m: &[f32; 16],
-    img_w: usize,
-    img_h: usize,
-    pix2tri: &[u32],
-    num_vdim: usize,
-    pix2val: &[f32],
-    dldw_pix2val: &[f32],
-    types: &mut [u8],
-    dldrs: &mut [f32],
-    right: usize,
-    down: usize,
-)
-    requires sound_map { SoundMap «tri2vtx».now «vtx2xyz».now «pix2tri».now img_w img_h }
-    requires sound_values { SoundValues (pixel_values «pix2val».now dldw_pix2val.now num_vdim) (img_w * img_h) }
-    requires right_bound { (right ≤ 1) × (down ≤ 1) }
-    requires sound_axis { SoundAxis (axis right down) img_w img_h (axis_buffers types.old dldrs.old) }
-    ensures { axis_buffers types.new dldrs.new ≡ edges_of (axis right down) img_h
-        (edge_view (view_of «tri2vtx».now «pix2tri».now) m.now «vtx2xyz».now img_w)
-        (pixel_values «pix2val».now dldw_pix2val.now num_vdim) }
+pub fn fill_axis(view: &View, values: &PixelValues, buffers: &mut AxisBuffers, axis: Axis)
+    requires pixels { values.now.pixels ≡ view.now.size.w * view.now.size.h }
+    requires count { length buffers.old.types.now ≡ edge_count (axis_of axis) view.now.size.w view.now.size.h }
+    ensures same { SameBuffers buffers.old buffers.new }
+    ensures filled { held buffers.new ≡ edges_of (axis_of axis) view.now.size.h (seen_of view.now) (values_of values.now) }
 {
-    let columns = img_w - right;
-    let n = (img_h - down) * columns;
-    let count = img_w * img_h;
-    let mut x = 0;
-    let mut y = 0;
-    let mut i = 0;
-    while i < n {
-        let pair = pairs::pair_at(img_w, img_h, pix2tri, x, y, right, down);
-        types[i] = edge_type(
-            tri2vtx, vtx2xyz, m, img_w, img_h, pix2tri, x, y, right, down,
-        );
-        dldrs[i] = pairs::dldr(pix2val, dldw_pix2val, num_vdim, pair.p, pair.q, count);
-        let next = pixels::next(x, y, columns);
-        x = next.x;
-        y = next.y;
-        i += 1;
+    for y in 0..view.size.h - axis.down {
+        fill_row(view, values, buffers, axis, y);
     }
 }
