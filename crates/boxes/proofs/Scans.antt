@@ -13,8 +13,11 @@ use Rattle.lists.specs.Laws.Tests.{after_yes, after_no}
 use Rattle.geometry.specs.Vector.{Vec3, Triangle}
 use Rattle.pixels.specs.Pixel.{centre}
 use Rattle.rules.specs.Scan.{all_finite, finite_in_pixels, in_closed_box, scans, spans, between, least, greatest}
+use Rattle.boxes.specs.declared.lines.Span.{Span}
+use Rattle.boxes.specs.declared.reach.End.TheVariants.{Lower, Upper}
+use Rattle.boxes.specs.declared.Box.{Box}
 use Rattle.boxes.specs.Reach.{FirstReached, holds_centre, Misses, Tells}
-use Rattle.boxes.specs.Box.{box, in_range, in_box, Meets, Scanned}
+use Rattle.boxes.specs.Box.{in_range, in_box, Unspanned, Spanned, Unscanned, Meets, Scanned}
 use Rattle.boxes.proofs.Reaching.{below_or, range_is, range_none}
 
 -- ---- three coordinates along an axis
@@ -45,22 +48,19 @@ module _ (a b c : Float) (n : ℕ) where
         all_are_finite = λ k. rw (← ea, ← eb, ← ec, fa, fb, fc);
       }
 
--- the ends that were found along an axis of n columns or rows
-pub record Ends (a b c low high : Float) (n i0 i1 : ℕ) : Type 0 where
-  pub low_is : low ≡ least a b c
-  pub high_is : high ≡ greatest a b c
-  pub first : FirstReached true low n i0
-  pub past : FirstReached false high n i1
+-- ---- the centres between two ends
 
--- as the code finds them
-pub ends_found : {a b c p q s low high : Float} {n i0 i1 : ℕ} → p ≡ a → q ≡ b → s ≡ c → low ≡ least p q s → high ≡ greatest p q s
-    → FirstReached true low n i0 → FirstReached false high n i1 → Ends a b c low high n i0 i1
-ends_found ea eb ec e g f t = record { low_is = rw (← ea, ← eb, ← ec) e; high_is = rw (← ea, ← eb, ← ec) g; first = f; past = t }
+module _ (a b c : Float) {low high : Float} (n : ℕ) {i0 i1 : ℕ} (low_is : low ≡ least a b c) (high_is : high ≡ greatest a b c)
+    (first : FirstReached (Lower low) n i0) (past : FirstReached (Upper high) n i1) where
+  between_ends : (i : ℕ) → i < n → in_range i0 i1 i ≡ spans a b c (centre i)
+  unfolding spans
+  between_ends i h = rw (← low_is, ← high_is) (sym (range_is low high n i0 i1 first past i h))
 
--- the centres that three coordinates span lie between them
-spans_range : {a b c low high : Float} {n i0 i1 : ℕ} → Ends a b c low high n i0 i1 → (i : ℕ) → i < n → in_range i0 i1 i ≡ spans a b c (centre i)
-unfolding spans
-spans_range {a} {b} {c} {low} {high} {n} {i0} {i1} e i h = rw (← e.low_is, ← e.high_is) (sym (range_is low high n i0 i1 e.first e.past i h))
+  pub none_between : i1 ≤ i0 → Unspanned a b c n
+  none_between m i h = sym (between_ends i h) ∙ range_none i0 i1 i m
+
+  pub some_between : i0 ≤ i1 → Spanned a b c n (record { start = i0; end = i1 })
+  some_between m = record { within = record { order = m; most = past.within }; centres = between_ends }
 
 -- ---- how many
 
@@ -77,13 +77,17 @@ range_count a b n h = go (below_or a b)
         (λ i j m. rw (le-leb a i (omega arith), le-ltb i b j))
     go (inr k) = let none : 0 ≡ b - a = omega arith in count_alike (in_range a b) false 0 n (λ i j. range_none a b (0 + i) k) ∙ none
 
--- of three finite coordinates, those from the one end up to the other
-pub ends_counted : {a b c low high : Float} {n i0 i1 : ℕ} → all_finite a b c ≡ true → Ends a b c low high n i0 i1 → i1 - i0 ≡ count (holds_centre a b c) (span 0 n)
+-- of three finite coordinates, those that they span
+pub some_counted : (a b c : Float) (n : ℕ) (r : Span) → all_finite a b c ≡ true → Spanned a b c n r → r.end - r.start ≡ count (holds_centre a b c) (span 0 n)
 unfolding holds_centre
-ends_counted {a} {b} {c} {low} {high} {n} {i0} {i1} f e =
+some_counted a b c n r f e =
     sym
-    (count_same (holds_centre a b c) (in_range i0 i1) 0 0 n (λ i h. after_yes f (sym (spans_range e (0 + i) (omega arith))))
-    ∙ range_count i0 i1 n e.past.within)
+    (count_same (holds_centre a b c) (in_range r.start r.end) 0 0 n (λ i h. after_yes f (sym (e.centres (0 + i) (omega arith))))
+    ∙ range_count r.start r.end n e.within.most)
+
+pub unspanned : (a b c : Float) (n : ℕ) → Unspanned a b c n → Misses a b c n
+unfolding Misses holds_centre
+unspanned a b c n e = λ i h. rw (e i h, and-false)
 
 -- none
 pub none_counted : (a b c : Float) (n : ℕ) → Misses a b c n → 0 ≡ count (holds_centre a b c) (span 0 n)
@@ -92,23 +96,22 @@ none_counted a b c n m = sym (count_alike (holds_centre a b c) false 0 n (λ i h
 
 -- ---- the scan of a piece
 
+-- a box of no column and no row
+abbrev pub no_box : Box
+no_box = record { columns = record { start = 0; end = 0 }; rows = record { start = 0; end = 0 } }
+
 module _ (s : Triangle (Vec3 Float)) (w h : ℕ) where
-  abbrev XEnds : Float → Float → ℕ → ℕ → Type 0
-  XEnds low high x0 x1 = Ends s.p0.x s.p1.x s.p2.x low high w x0 x1
-
-  abbrev YEnds : Float → Float → ℕ → ℕ → Type 0
-  YEnds low high y0 y1 = Ends s.p0.y s.p1.y s.p2.y low high h y0 y1
-
-  pub ends_scanned : {lx hx ly hy : Float} {x0 x1 y0 y1 : ℕ} → finite_in_pixels s ≡ true → XEnds lx hx x0 x1 → YEnds ly hy y0 y1 → x0 ≤ x1 → y0 ≤ y1 → Scanned s w h (box x0 x1 y0 y1)
+  -- the columns and the rows that it spans
+  pub spans_scanned : (b : Box) → finite_in_pixels s ≡ true → Spanned s.p0.x s.p1.x s.p2.x w b.columns → Spanned s.p0.y s.p1.y s.p2.y h b.rows → Scanned s w h b
   unfolding in_box scans in_closed_box
-  ends_scanned f x y i j =
+  spans_scanned b f x y =
       record {
-        columns = record { order = i; most = x.past.within };
-        rows = record { order = j; most = y.past.within };
-        visits = λ ix iy k l. rw (f, spans_range x ix k, spans_range y iy l);
+        columns = x.within;
+        rows = y.within;
+        visits = λ ix iy k l. rw (f, x.centres ix k, y.centres iy l);
       }
 
-  pub none_scanned : ((ix iy : ℕ) → ix < w → iy < h → scans s ix iy ≡ false) → Scanned s w h (box 0 0 0 0)
+  pub none_scanned : Unscanned s w h → Scanned s w h no_box
   unfolding in_box
   none_scanned e =
       record {
@@ -117,14 +120,14 @@ module _ (s : Triangle (Vec3 Float)) (w h : ℕ) where
         visits = λ ix iy k l. rw (range_none 0 0 ix (omega arith)) (sym (e ix iy k l));
       }
 
-  -- no column lies between the ends, or no row
-  pub no_columns : {lx hx : Float} {x0 x1 : ℕ} → XEnds lx hx x0 x1 → x1 ≤ x0 → Scanned s w h (box 0 0 0 0)
+  -- it spans no column, or no row
+  pub no_columns : Unspanned s.p0.x s.p1.x s.p2.x w → Unscanned s w h
   unfolding scans in_closed_box
-  no_columns {lx} {hx} {x0} {x1} x m = none_scanned (λ ix iy k l. rw (← (spans_range x ix k), range_none x0 x1 ix m, and-false))
+  no_columns e ix iy k l = rw (e ix k, and-false)
 
-  pub no_rows : {ly hy : Float} {y0 y1 : ℕ} → YEnds ly hy y0 y1 → y1 ≤ y0 → Scanned s w h (box 0 0 0 0)
+  pub no_rows : Unspanned s.p0.y s.p1.y s.p2.y h → Unscanned s w h
   unfolding scans in_closed_box
-  no_rows {ly} {hy} {y0} {y1} y m = none_scanned (λ ix iy k l. rw (← (spans_range y iy l), range_none y0 y1 iy m, and-false, and-false))
+  no_rows e ix iy k l = rw (e iy l, and-false, and-false)
 
   -- ---- the columns tested, and then the rows
 

@@ -1,4 +1,3 @@
 -- What the contracts of a piece's box cite beside the rules.
-pub mod Answer
 pub mod Reach
 pub mod Box

@@ -3,27 +3,31 @@ use Rattle.std.specs.Prelude.{ℕ, ◌≤◌, ◌<◌, ◌≡◌, Bool, true, fa
 use Rattle.std.specs.Float.Ieee.{le}
 use Rattle.pixels.specs.Pixel.{centre}
 use Rattle.rules.specs.Scan.{column, row, spans, all_finite}
+use Rattle.boxes.specs.declared.lines.Along.{Along}
+use Rattle.boxes.specs.declared.lines.Along.TheVariants.{Columns, Rows}
+use Rattle.boxes.specs.declared.reach.End.{End}
+use Rattle.boxes.specs.declared.reach.End.TheVariants.{Lower, Upper}
 
 -- centre i has come to the box's lower end x; or, past its upper end x
-unfoldable pub reached : Bool → Float → ℕ → Bool
-reached true x i = le x (centre i)
-reached false x i = not (le (centre i) x)
+unfoldable pub reached : End → ℕ → Bool
+reached (Lower x) i = le x (centre i)
+reached (Upper x) i = not (le (centre i) x)
 
--- r is at most n, and none before it has reached x
-pub record Settled (lower : Bool) (x : Float) (n r : ℕ) : Type 0 where
+-- r is at most n, and none before it has reached the end
+pub record Settled (end : End) (n r : ℕ) : Type 0 where
   pub within : r ≤ n
-  pub before : (i : ℕ) → i < r → reached lower x i ≡ false
+  pub before : (i : ℕ) → i < r → reached end i ≡ false
 
--- r is the first of n columns or rows that has reached x, or n
-pub record FirstReached (lower : Bool) (x : Float) (n r : ℕ) : Type 0 where
+-- r is the first of n columns or rows that has reached the end, or n
+pub record FirstReached (end : End) (n r : ℕ) : Type 0 where
   pub within : r ≤ n
-  pub before : (i : ℕ) → i < r → reached lower x i ≡ false
-  pub after : (i : ℕ) → r ≤ i → i < n → reached lower x i ≡ true
+  pub before : (i : ℕ) → i < r → reached end i ≡ false
+  pub after : (i : ℕ) → r ≤ i → i < n → reached end i ≡ true
 
--- the coordinate in pixels of a corner along an axis of n: its row where `down`, else its column
-abbrev pub in_pixels : Bool → ℕ → Float → Float
-in_pixels false n c = column n c
-in_pixels true n c = row n c
+-- the coordinate in pixels of a corner along n columns or n rows
+abbrev pub in_pixels : Along → ℕ → Float → Float
+in_pixels Columns n c = column n c
+in_pixels Rows n c = row n c
 
 -- three coordinates are finite, and centre i lies in their closed box
 unfoldable pub holds_centre : Float → Float → Float → ℕ → Bool

@@ -1,10 +1,6 @@
--- `reach::settle_on`: on to the first that has reached x.
-use Prim.Native.Nat.{◌-◌}
+-- `reach::settle_on`: none before i has reached the end.
 use Rattle.boxes.specs.Reach.{Settled}
 use Rattle.boxes.proofs.reach.settle_on.Given as goal
 
 abbrev pub invariant-loop-i : goal.invariant-loop-i
-invariant-loop-i l = Settled l.lower l.x l.n l.i
-
-abbrev pub decreases-loop-i : goal.decreases-loop-i
-decreases-loop-i l = l.n - l.i
+invariant-loop-i l = Settled l.end l.n l.i
