@@ -1,2 +1,2 @@
--- a law that the proofs cite
-pub mod Gradients
+-- what the proofs share
+pub mod Gathered

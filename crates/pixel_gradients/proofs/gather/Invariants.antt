@@ -1,16 +1,10 @@
-use Prim.Native.Nat.{◌+◌, ◌-◌, ◌≤◌}
-use mathlib.Core.Path.{◌≡◌}
-use lib.Ieee.{nan}
-use lib.ListN.{get_or}
-use Rattle.geometry.specs.Arith.{floats}
-use Rattle.pixel_gradients.specs.Gather.{gathered}
+use Rattle.std.proofs.Common.{◌≡◌}
+use Rattle.geometry.specs.Answer.{weights_of}
+use Rattle.meshes.specs.Answer.{face_of}
+use Rattle.vertex_values.specs.Answer.{vertices_of}
 use Rattle.pixel_gradients.specs.Gradients.{incoming_at}
+use Rattle.pixel_gradients.proofs.Gathered.{gathered_to}
 use Rattle.pixel_gradients.proofs.gather.Given as goal
 
 abbrev pub invariant-loop-j : goal.invariant-loop-j
-invariant-loop-j l = (l.j ≤ l.c) × (l.b0 ≡ gathered floats (λ k. get_or l.vtx2val (l.a0 + k) nan) (incoming_at l.dldw l.at) l.j)
-    × (l.b1 ≡ gathered floats (λ k. get_or l.vtx2val (l.a1 + k) nan) (incoming_at l.dldw l.at) l.j)
-    × (l.b2 ≡ gathered floats (λ k. get_or l.vtx2val (l.a2 + k) nan) (incoming_at l.dldw l.at) l.j)
-
-abbrev pub decreases-loop-j : goal.decreases-loop-j
-decreases-loop-j l = l.c - l.j
+invariant-loop-j l = weights_of l.b ≡ gathered_to (vertices_of l.pass) (face_of l.f) (incoming_at l.dldw l.at) l.j
