@@ -1,10 +1,11 @@
 -- The pixels compared, as a loop over them counts.
 use Prim.Native.Nat.{ℕ, ◌+◌, ◌-◌, ◌≤◌, ◌<◌}
-use mathlib.Core.Path.{◌≡◌, ap, ap₂, sym, ◌∙◌}
-use mathlib.Core.Bool.{Bool, true, false, not, not-not}
+use mathlib.Core.Path.{◌≡◌, refl, ap, ap₂, sym, ◌∙◌}
+use mathlib.Core.Bool.{Bool, true, false, not, not-not, ◌&&◌, cond}
 use mathlib.Core.List.{List}
 use native.Mathlib.Omega.{arith}
 use lib.Dec.{eqb}
+use Rattle.std.specs.Int.{from_bool}
 use lib.ListN.{length, get_or}
 use Rattle.lists.specs.Lists.{tabulate, span, count}
 use Rattle.lists.specs.Laws.Tables.{length-tabulate}
@@ -16,14 +17,15 @@ use Rattle.removal_rules.specs.Removal.{kept_by, goes_empty, names_another, prev
 use Rattle.removal_rules.specs.Matched.{Matched}
 use Rattle.removal_rules.proofs.Laws.Pixels.{empties, renames}
 use Rattle.removal_rules.proofs.Laws.Counts.{adds_up, same_preview}
-use Rattle.removal_counts.specs.Steps.{one_if}
 
 -- what one pixel adds
-pub at_most_one : (a b : Bool) {x : ℕ} → x ≡ one_if a b → x ≤ 1
-unfolding one_if
-at_most_one true true e = omega arith
-at_most_one true false e = omega arith
-at_most_one false b e = omega arith
+pub at_most_one : (a : Bool) {x : ℕ} → x ≡ from_bool a → x ≤ 1
+at_most_one true e = omega arith
+at_most_one false e = omega arith
+
+one : (a : Bool) → from_bool a ≡ cond a 1 0
+one true = refl
+one false = refl
 
 module _ (removed full short : List ℕ) where
   abbrev keep : ℕ → Bool
@@ -57,16 +59,15 @@ module _ (removed full short : List ℕ) where
         → p < length full
         → Compared p emptied renamed
         → lost ≡ not (keep (get_or full p 0))
-        → x ≡ one_if lost (not (not (eqb (get_or short p 0) empty)))
-        → y ≡ one_if lost (not (eqb (get_or short p 0) empty))
+        → x ≡ from_bool (lost && not (not (eqb (get_or short p 0) empty)))
+        → y ≡ from_bool (lost && not (eqb (get_or short p 0) empty))
         → Compared (p + 1) (emptied + x) (renamed + y)
-    unfolding one_if
     one_more {p} h t e f g =
         let old : get_or full p 0 ≡ entry_at full p = entry_read full p h in
         let new : get_or short p 0 ≡ entry_at short p = entry_read short p (omega (arith, same)) in
         record {
-          emptied_is = ap₂ ◌+◌ t.emptied_is (f ∙ rw (e, old, new, not-not (eqb (entry_at short p) empty), empties matched p h)) ∙ sym (count_next gone p);
-          renamed_is = ap₂ ◌+◌ t.renamed_is (g ∙ rw (e, old, new, renames matched p h)) ∙ sym (count_next another p);
+          emptied_is = ap₂ ◌+◌ t.emptied_is (f ∙ one _ ∙ rw (e, old, new, not-not (eqb (entry_at short p) empty), empties matched p h)) ∙ sym (count_next gone p);
+          renamed_is = ap₂ ◌+◌ t.renamed_is (g ∙ one _ ∙ rw (e, old, new, renames matched p h)) ∙ sym (count_next another p);
         }
 
     -- all of them: what is left keeps its face

@@ -1,3 +1,2 @@
 -- What the contracts of the preview cite beside its definitions.
 pub mod Answer
-pub mod Steps

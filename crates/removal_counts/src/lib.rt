@@ -2,14 +2,22 @@
 #![tactic(auto)]
 
 ghost use Rattle.std.specs.Prelude.{◌≡◌, not, length};
-ghost use Rattle.questions.specs.Questions.{outcome};
 ghost use Rattle.cells.specs.Layer.{Layer};
-ghost use Rattle.removal_rules.specs.Removal.{kept_by, counted, previewed};
+ghost use Rattle.removal_rules.specs.Removal.{kept_by, counted};
 ghost use Rattle.removal_rules.specs.Matched.{Matched};
-ghost use Rattle.removal_counts.specs.Answer.{answered};
-ghost use Rattle.removal_counts.specs.Steps.{one_if};
+ghost use Rattle.removal_counts.specs.Answer.{preview_of, answered, answered_in_c};
 
-// The code; how many pixels go empty, name another face and keep theirs, each 0 where the call refuses.
+use questions::Refusal;
+
+// How many pixels go empty, name another face and keep theirs.
+#[derive(Clone, Copy, Debug, PartialEq, Eq)]
+pub struct Preview {
+    pub emptied: usize,
+    pub renamed: usize,
+    pub kept: usize,
+}
+
+// The answer as C takes it: the code, and the counts, each 0 where the call refuses.
 #[repr(C)]
 #[derive(Clone, Copy)]
 pub struct RemovalPreview {
@@ -19,50 +27,55 @@ pub struct RemovalPreview {
     pub kept: usize,
 }
 
+impl From<Result<Preview, Refusal>> for RemovalPreview {
+    fn from(answer: Result<Preview, Refusal>) -> RemovalPreview
+        ensures { (full short : Layer) → answered_in_c result full short ≡ answered answer full short }
+    {
+        match answer {
+            Ok(preview) => RemovalPreview {
+                code: 0,
+                emptied: preview.emptied,
+                renamed: preview.renamed,
+                kept: preview.kept,
+            },
+            Err(refusal) => RemovalPreview {
+                code: u32::from(refusal),
+                emptied: 0,
+                renamed: 0,
+                kept: 0,
+            },
+        }
+    }
+}
+
 // Whether an entry of the full map names a removed face. Past the marks lies empty alone, and no face.
+#[tactic(auto, unfolding(removal_rules::specs::Removal::kept_by))]
 fn is_removed(removed: &[u8], entry: u32) -> bool
     ensures { result ≡ not (kept_by removed.now entry) }
 {
-    let k = entry as usize;
-    if k < removed.len() {
-        return removed[k] != 0;
+    match removed.get(entry as usize) {
+        Some(mark) => *mark != 0,
+        None => false,
     }
-    false
-}
-
-// 1 where both hold, else 0.
-fn one_if(a: bool, b: bool) -> usize
-    ensures { result ≡ one_if a b }
-{
-    if !a {
-        return 0;
-    }
-    if !b {
-        return 0;
-    }
-    1
 }
 
 // The pixels of both maps compared, one after the other. One whose old face is kept shows it still, since what was behind that face cannot come before it: so no numbers
 // are matched here.
-pub fn count_pixels(removed: &[u8], full_pix2tri: &[u32], short_pix2tri: &[u32]) -> RemovalPreview
-    requires short_pix2tri_len { length short_pix2tri.now ≡ length full_pix2tri.now }
-    requires cases { Matched (kept_by removed.now) full_pix2tri.now short_pix2tri.now (length full_pix2tri.now) }
-    ensures { (full short : Layer) → answered result full short ≡ outcome 0 (previewed (counted (kept_by removed.now) full_pix2tri.now short_pix2tri.now (length full_pix2tri.now)) full short) }
+pub fn count_pixels(removed: &[u8], full_pix2tri: &[u32], short_pix2tri: &[u32]) -> Preview
+    requires same_length { length short_pix2tri.now ≡ length full_pix2tri.now }
+    requires matched { Matched (kept_by removed.now) full_pix2tri.now short_pix2tri.now (length full_pix2tri.now) }
+    ensures { preview_of result ≡ counted (kept_by removed.now) full_pix2tri.now short_pix2tri.now (length full_pix2tri.now) }
 {
     let count = full_pix2tri.len();
-    let mut p: usize = 0;
     let mut emptied: usize = 0;
     let mut renamed: usize = 0;
-    while p < count {
+    for p in 0..count {
         let lost = is_removed(removed, full_pix2tri[p]);
         let shows = short_pix2tri[p] != questions::EMPTY;
-        emptied += one_if(lost, !shows);
-        renamed += one_if(lost, shows);
-        p += 1;
+        emptied += usize::from(lost & !shows);
+        renamed += usize::from(lost & shows);
     }
-    RemovalPreview {
-        code: 0,
+    Preview {
         emptied,
         renamed,
         kept: count - emptied - renamed,
