@@ -21,7 +21,7 @@ pub struct Tri {
 
 impl Tri {
     // A face whose corners question 8 has found to have projections.
-    #[tactic(auto, using(crate::proofs::Projecting::face_projected))]
+    #[tactic(auto, unfolding(meshes::specs::Mesh::project_face, meshes::specs::Mesh::all_three, meshes::specs::Mesh::corners_at, inside::specs::Inside::projects, inside::specs::Inside::present, geometry::specs::Leaf::project, geometry::specs::Leaf::divided, jacobians::specs::Formula::project_untested))]
     pub fn new(mesh: &Mesh, m: &[f32; 16], f: Face) -> Tri
         requires { Projects m.now mesh.now.vtx2xyz.now (face_of f) }
         ensures { TriOf m.now mesh.now.vtx2xyz.now (face_of f) (corners_in result) (projected_in result) }
