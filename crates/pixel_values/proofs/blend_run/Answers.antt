@@ -1,21 +1,22 @@
-use borrow.Author.Rules.{rules}
-use mathlib.Core.Path.{◌≡◌, refl, ◌∙◌, ap, ap₂}
-use native.Mathlib.Omega.{arith}
-use lib.ListN.{length, set}
+use Rattle.std.proofs.Common.{◌≡◌, ◌∙◌, ap, ap₂, arith, slice_set}
+use Rattle.geometry.specs.Answer.{weights_of}
 use Rattle.lists.specs.Laws.Tables.{stored, stored_none, stored_more, stored_all}
+use Rattle.meshes.specs.Answer.{face_of}
+use Rattle.vertex_values.specs.Answer.{vertices_of}
+use Rattle.pixel_values.specs.Pixel.{blend_of}
 use Rattle.pixel_values.proofs.blend_run.Goals as goal
 
 pub loop-j-init : goal.loop-j-init
-loop-j-init c = (search rules, refl, stored_none _ c.args.val.now)
+loop-j-init c = stored_none _ c.args.val.now
 
 pub loop-j-preserved : goal.loop-j-preserved
-loop-j-preserved c = let v = c.args.val.now in (
-  search rules,
-  search rules,
-  ap₂ (λ t x. set t c.loop-j.j x) c.loop-j.invariant.2 c.blend.ensures ∙ stored_more _ v c.loop-j.j (search rules),
-)
+unfolding blend_of
+loop-j-preserved c =
+    let j = c.loop-j.j in
+    let here : c.blend.result ≡ blend_of (vertices_of c.args.pass.now) (face_of c.args.f) (weights_of c.args.b) j = cc in
+    ap₂ (λ t x. slice_set t j x) c.loop-j.invariant here ∙ stored_more _ c.args.val.now j (omega arith)
 
 pub returns : goal.returns
-returns c = let v = c.args.val.now in
-    let whole : c.loop-j.j ≡ length v = omega arith in
-    c.loop-j.invariant.2 ∙ ap (stored _ v) whole ∙ stored_all _ v (length v) refl
+returns c =
+    let all : c.loop-j.j ≡ c.args.pass.now.num_vdim = omega (arith, c.requires.whole) in
+    c.loop-j.invariant ∙ ap (stored _ c.args.val.now) all ∙ stored_all _ c.args.val.now _ c.requires.whole
