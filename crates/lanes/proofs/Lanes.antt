@@ -6,12 +6,12 @@ use lib.Ieee.{Float, nan, inf, fin, lt, eq}
 use lib.Ieee.Scale.{finite}
 use Rattle.lists.specs.Laws.Tests.{both, after_no}
 use Rattle.geometry.specs.Arith.{floats}
-use Rattle.geometry.specs.Vector.{Vec3, Weights, weights, Triangle}
+use Rattle.geometry.specs.Vector.{Vec3, Weights, Triangle}
 use Rattle.geometry.specs.Formula.{over_total, blend}
 use Rattle.geometry.specs.Leaf.{weighed, with_sum}
 use Rattle.offers.specs.Offer.{lowest}
 use Rattle.cells.proofs.Laws.Put.{never_greater}
-use Rattle.rules.specs.Scan.{weighed_depth, kept, drop_below, dropped}
+use Rattle.rules.specs.Scan.{weighed_depth, kept, dropped}
 use Rattle.lanes.specs.declared.Side.{Side}
 use Rattle.lanes.specs.Answer.{within, or_lowest}
 
@@ -52,18 +52,3 @@ module _ (side : Side) (s : Triangle (Vec3 Float)) (a : Weights Float) (t : Floa
       go : (w : Bool) → within side t ≡ w → cond (not (within side t)) lowest straight ≡ or_lowest (weighed_depth (within side) s (with_sum t (weighed a t)))
       go true k = rw k (counted (eq t floats.zero) (dropped (over_total floats a t)) refl refl (within_finite side t k) k)
       go false k = rw k (left_out (finite t && not (eq t floats.zero)) k)
-
--- ---- the tests of the three weights, one after the other
-
-module _ (b0 b1 b2 : Float) where
-  pub first_drops : lt b0 drop_below ≡ true → true ≡ dropped (weights b0 b1 b2)
-  unfolding dropped
-  first_drops e0 = rw e0
-
-  pub second_drops : lt b0 drop_below ≡ false → lt b1 drop_below ≡ true → true ≡ dropped (weights b0 b1 b2)
-  unfolding dropped
-  second_drops e0 e1 = rw (e0, e1)
-
-  pub third_decides : {r : Bool} → lt b0 drop_below ≡ false → lt b1 drop_below ≡ false → r ≡ lt b2 drop_below → r ≡ dropped (weights b0 b1 b2)
-  unfolding dropped
-  third_decides e0 e1 e2 = rw (e0, e1) e2
