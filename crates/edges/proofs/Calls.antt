@@ -1,20 +1,28 @@
 -- From what the steps of `edge_gradient_and_type` promise to the call's whole outcome.
-use Prim.Native.Nat.{ℕ}
-use mathlib.Core.Path.{◌≡◌, ap₂}
-use mathlib.Core.List.{List}
+use Rattle.std.specs.Prelude.{ℕ, ◌≡◌, refl, Bool, true, false, cond, Ok, Err, List}
+use Rattle.std.proofs.Common.{ap₂}
+use Rattle.questions.specs.declared.Refusal.{Refusal}
+use Rattle.questions.specs.Answer.{code_of}
 use Rattle.questions.specs.Questions.{outcome}
-use Rattle.questions.specs.Laws.{call_refused, call_done}
+use Rattle.questions.specs.Laws.{call_done}
+use Rattle.questions.proofs.Laws.Refusals.{refused}
 use Rattle.pixels.specs.Edge.{hedge, vedge}
 use Rattle.pairs.specs.Pairs.{EdgeView}
 use Rattle.pairs.specs.Gradient.{PixelValues}
 use Rattle.edge_types.specs.Axis.{AxisBuffers, edges_of}
 use Rattle.edges.specs.Calls.{EdgeBuffers, edge_buffers, edge_code, edge_typing}
 
-module _ (tri map : List ℕ) (h : ℕ) (s : EdgeView) (v : PixelValues) (b : EdgeBuffers) (code : ℕ) (e : code ≡ edge_code tri map h s v b) where
-  pub edge_refused : (code ≡ 0 → ⊥) → outcome code b ≡ edge_typing tri map h s v b
-  unfolding edge_typing
-  edge_refused no0 = call_refused _ e no0
+-- a question that is passed was answered yes
+pub yes : (a : Bool) (r : Refusal) {u : Unit {0}} → Ok u ≡ cond a (Ok tt) (Err r) → a ≡ true
+yes true r e = refl
+yes false r e = cc
 
-  pub edge_done : (hs vs : AxisBuffers) → code ≡ 0 → hs ≡ edges_of hedge h s v → vs ≡ edges_of vedge h s v → outcome 0 (edge_buffers hs vs) ≡ edge_typing tri map h s v b
+module _ (tri map : List ℕ) (h : ℕ) (s : EdgeView) (v : PixelValues) (b : EdgeBuffers) where
+  pub edge_refused : (r : Refusal) → code_of (Err r) ≡ edge_code tri map h s v b → outcome (code_of (Err r)) b ≡ edge_typing tri map h s v b
   unfolding edge_typing
-  edge_done hs vs z eh ev = call_done b e z (ap₂ edge_buffers eh ev)
+  edge_refused r e = refused r _ e
+
+  pub edge_done : (hs vs : AxisBuffers) → code_of (Ok tt) ≡ edge_code tri map h s v b → hs ≡ edges_of hedge h s v → vs ≡ edges_of vedge h s v
+      → outcome 0 (edge_buffers hs vs) ≡ edge_typing tri map h s v b
+  unfolding edge_typing
+  edge_done hs vs e eh ev = call_done b e refl (ap₂ edge_buffers eh ev)

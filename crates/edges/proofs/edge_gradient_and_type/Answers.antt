@@ -1,18 +1,38 @@
-use mathlib.Core.Path.{sym, ◌∙◌}
-use Rattle.edge_types.specs.Axis.{axis_buffers}
+use Rattle.std.proofs.Common.{rules, sym, ◌∙◌}
 use Rattle.edges.specs.Laws.{edge_accepted}
 use Rattle.edges.proofs.Calls.{edge_refused, edge_done}
-use borrow.Author.Rules.{rules}
 use Rattle.edges.proofs.edge_gradient_and_type.Goals as goal
 
-pub returns-then-code-ne0 : goal.returns-then-code-ne0
-returns-then-code-ne0 c = edge_refused _ _ _ _ _ _ _ c.edge_code-code.ensures c.if-code-ne0.true
+pub returns-in_err-ask_edges : goal.returns-in_err-ask_edges
+returns-in_err-ask_edges c = search (rules, edge_refused)
 
-pub fill_axis-requires : goal.fill_axis-requires
-fill_axis-requires c = let known = edge_accepted _ _ _ _ _ _ (sym c.edge_code-code.ensures ∙ c.if-code-ne0.false) in record { sound_map = known.image; sound_values = known.values; right_bound = search rules; sound_axis = known.hedges }
+pub invariant_of-size : goal.invariant_of-size
+invariant_of-size c = record { sized = (edge_accepted _ _ _ _ _ _ (sym c.in_ok-ask_edges.ensures)).image.size }
 
-pub fill_axis-requires-2 : goal.fill_axis-requires-2
-fill_axis-requires-2 c = let known = edge_accepted _ _ _ _ _ _ (sym c.edge_code-code.ensures ∙ c.if-code-ne0.false) in record { sound_map = known.image; sound_values = known.values; right_bound = search rules; sound_axis = known.vedges }
+pub invariant_of-mesh : goal.invariant_of-mesh
+invariant_of-mesh c = record { sound = (edge_accepted _ _ _ _ _ _ (sym c.in_ok-ask_edges.ensures)).image.mesh }
+
+pub invariant_of-view : goal.invariant_of-view
+invariant_of-view c = record { sound = (edge_accepted _ _ _ _ _ _ (sym c.in_ok-ask_edges.ensures)).image }
+
+pub invariant_of-values : goal.invariant_of-values
+invariant_of-values c = record { sound = rw c.pixels.ensures.count (edge_accepted _ _ _ _ _ _ (sym c.in_ok-ask_edges.ensures)).values }
+
+pub invariant_of-hedges : goal.invariant_of-hedges
+invariant_of-hedges c =
+    let known = (edge_accepted _ _ _ _ _ _ (sym c.in_ok-ask_edges.ensures)).hedges in
+    record { paired = known.dldrs ∙ sym known.types }
+
+pub fill_axis-requires-clause-count : goal.fill_axis-requires-clause-count
+fill_axis-requires-clause-count c = (edge_accepted _ _ _ _ _ _ (sym c.in_ok-ask_edges.ensures)).hedges.types
+
+pub invariant_of-vedges : goal.invariant_of-vedges
+invariant_of-vedges c =
+    let known = (edge_accepted _ _ _ _ _ _ (sym c.in_ok-ask_edges.ensures)).vedges in
+    record { paired = known.dldrs ∙ sym known.types }
+
+pub fill_axis-requires-2-clause-count : goal.fill_axis-requires-2-clause-count
+fill_axis-requires-2-clause-count c = (edge_accepted _ _ _ _ _ _ (sym c.in_ok-ask_edges.ensures)).vedges.types
 
 pub returns : goal.returns
-returns c = edge_done _ _ _ _ _ _ _ c.edge_code-code.ensures (axis_buffers _ _) (axis_buffers _ _) c.if-code-ne0.false c.fill_axis.ensures c.fill_axis-2.ensures
+returns c = edge_done _ _ _ _ _ _ _ _ c.in_ok-ask_edges.ensures (search rules) (search rules)
