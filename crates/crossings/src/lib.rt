@@ -1,4 +1,5 @@
-// Two faces that cross between two pixels, of their unit normals in the image. No function here is a public call.
+// Two faces that cross between two pixels, of their unit normals in the image. The Rust's axis is `axis.down`: 0 for pairs side by side, 1 for pairs one
+// above the other. No function here is a public call.
 #![tactic(auto)]
 
 ghost use Rattle.std.specs.Prelude.{◌≡◌};
