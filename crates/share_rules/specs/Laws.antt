@@ -1,5 +1,5 @@
 -- The shares of a pair, once the tests are answered.
-use Rattle.std.specs.Prelude.{ℕ, ◌+◌, ◌-◌, ◌*◌, ◌<◌, ◌≡◌, Bool, Float}
+use Rattle.std.specs.Prelude.{ℕ, ◌+◌, ◌*◌, ◌/◌, ◌<◌, ◌≡◌, Bool, Option, IfSome, length, Float}
 use Rattle.std.proofs.Math.Path.{refl}
 use Rattle.std.proofs.Common.{sym, ◌∙◌, ap, mul_comm, arith}
 use Rattle.std.proofs.Math.Bool.{true, false, cond}
@@ -8,40 +8,42 @@ use mathlib.Core.List.{List, [], ◌∷◌}
 use borrow.Author.Tests.{eq-eqb, ne_eqb}
 use Rattle.lists.specs.Laws.Every.{in_span}
 use Rattle.geometry.specs.Vector.{Vec2, Vec3, Projected, Triangle}
-use Rattle.meshes.specs.Mesh.{Face}
+use Rattle.meshes.specs.Mesh.{Face, Among}
 use Rattle.meshes.specs.View.{named, view_of}
-use Rattle.meshes.specs.Sound.{SoundMap}
+use Rattle.meshes.specs.Answer.{face_of, maybe_face}
+use Rattle.meshes.specs.declared.Face as code
 use Rattle.pixels.specs.Pixel.{centre_of}
-use Rattle.pixels.specs.Edge.{Axis, axis, Edge, edge_from, edge_at}
-use Rattle.pixels.specs.Laws.{Walked, walked_edge, number_below}
+use Rattle.pixels.specs.Edge.{Axis, Edge, edge_from, edge_at, per_row, rows, edge_count}
+use Rattle.pixels.specs.Laws.{number_below}
 use Rattle.inside.specs.Inside.{all_inside, contains}
 use Rattle.pairs.specs.Pairs.{EdgeView, edge_view, answered, all_answered}
 use Rattle.pairs.specs.Steps.{Within, PairAt}
-use Rattle.pairs.specs.Laws.{first-named, second-named, both-project}
+use Rattle.pairs.specs.Laws.{edge_in_row, both-project}
 use Rattle.pairs.specs.declared.Pair.{Pair}
-use Rattle.tris.specs.Tri.{unormal, Shows, TriOf}
+use Rattle.tris.specs.Tri.{unormal, Projects, TriOf}
+use Rattle.tris.specs.Laws.{shown-projects}
 use Rattle.crossings.specs.Crossing.{along}
 use Rattle.share_rules.specs.Shares.{Share, share, alone, crossing, crossing_of, intersection, received, between, shares_at}
 use Rattle.share_rules.specs.Steps.{beside_empty}
 
 module _ (axis : ℕ) (m xyz : List Float) where
-  pub both-empty : (q0 q1 : Vec2 Float) → between axis m xyz none none q0 q1 ≡ []
+  pub both_empty : (q0 q1 : Vec2 Float) → between axis m xyz none none q0 q1 ≡ []
   unfolding between contains intersection received
-  both-empty q0 q1 = refl
+  both_empty q0 q1 = refl
 
   -- the first is empty
-  pub after-empty : (f : Face) (q0 q1 : Vec2 Float) → between axis m xyz none (some f) q0 q1 ≡ beside_empty axis m xyz f q1 q0
+  pub after_empty : (f : Face) (q0 q1 : Vec2 Float) → between axis m xyz none (some f) q0 q1 ≡ beside_empty axis m xyz f q1 q0
   unfolding between contains intersection alone received beside_empty
-  after-empty f q0 q1 = go (contains all_inside m xyz (some f) q0) (share f q1 (along axis) ∷ [])
+  after_empty f q0 q1 = go (contains all_inside m xyz (some f) q0) (share f q1 (along axis) ∷ [])
     where
       go : (b : Bool) (l : List Share) → received b true [] [] l ≡ cond b [] l
       go true l = refl
       go false l = refl
 
   -- the second is
-  pub before-empty : (f : Face) (q0 q1 : Vec2 Float) → between axis m xyz (some f) none q0 q1 ≡ beside_empty axis m xyz f q0 q1
+  pub before_empty : (f : Face) (q0 q1 : Vec2 Float) → between axis m xyz (some f) none q0 q1 ≡ beside_empty axis m xyz f q0 q1
   unfolding between contains intersection alone received beside_empty
-  before-empty f q0 q1 = go (contains all_inside m xyz (some f) q1) (share f q0 (along axis) ∷ [])
+  before_empty f q0 q1 = go (contains all_inside m xyz (some f) q1) (share f q0 (along axis) ∷ [])
     where
       go : (b : Bool) (l : List Share) → received true b [] l [] ≡ cond b [] l
       go true l = refl
@@ -88,21 +90,22 @@ module _ (tri : List ℕ) {map : List ℕ} (m xyz : List Float) {w h : ℕ} (a :
   unfolding shares_at
   shares_unequal ne = rw (← k.first_entry, ← k.second_entry, ne_eqb _ _ ne)
 
--- what its entries show
-pub both-shown : {tri map : List ℕ} {xyz : List Float} {w h : ℕ} → SoundMap tri xyz map w h → (m : List Float) {e : Edge} {r : Pair} → PairAt map w h e r → (r.first ≡ r.second → ⊥)
-    → answered (edge_view (view_of tri map) m xyz w) e ≡ true → Shows tri m xyz r.first × Shows tri m xyz r.second
-both-shown {tri} {map} {xyz} s m k ne ok =
-    let p = both-project tri m xyz k ne ok in
-    (record { names = first-named s k; answered = p.0 }, record { names = second-named s k; answered = p.1 })
+-- what its entries name has its projections
+module _ (tri : List ℕ) {map : List ℕ} (m xyz : List Float) {w h : ℕ} {e : Edge} {r : Pair} (k : PairAt map w h e r) (ne : r.first ≡ r.second → ⊥)
+    (ok : answered (edge_view (view_of tri map) m xyz w) e ≡ true) where
+  pub first-projects : (shown : Option code.Face) → IfSome shown (λ f. Among (length xyz / 3) (face_of f)) → maybe_face shown ≡ named tri r.first
+      → IfSome shown (λ f. Projects m xyz (face_of f))
+  first-projects shown a n = shown-projects m xyz shown a (rw n (both-project tri m xyz k ne ok).0)
+
+  pub second-projects : (shown : Option code.Face) → IfSome shown (λ f. Among (length xyz / 3) (face_of f)) → maybe_face shown ≡ named tri r.second
+      → IfSome shown (λ f. Projects m xyz (face_of f))
+  second-projects shown a n = shown-projects m xyz shown a (rw n (both-project tri m xyz k ne ok).1)
 
 -- question 8 of an axis, at one of its pairs
-pub answered-at : (s : EdgeView) (h right down : ℕ) {x y : ℕ} → Within s.width h right down x y → all_answered (axis right down) h s ≡ true
-    → answered s (edge_from (axis right down) x y) ≡ true
+pub answered-at : (s : EdgeView) (h : ℕ) (a : Axis) {x y : ℕ} → Within s.width h a.right a.down x y → all_answered a h s ≡ true → answered s (edge_from a x y) ≡ true
 unfolding all_answered
-answered-at s h right down {x} {y} k e =
-    let c : x < s.width - right = omega (arith, k.column) in
-    let r : y < h - down = omega (arith, k.row) in
-    let l : y * (s.width - right) + x < (h - down) * (s.width - right) = omega (arith, number_below c r, mul_comm (h - down) (s.width - right)) in
-    let walk : Walked (s.width - right) (y * (s.width - right) + x) x y = record { number = refl; column = λ p. c } in
-    sym (ap (answered s) (walked_edge (axis right down) s.width h walk l))
-    ∙ in_span (λ i. answered s (edge_at (axis right down) s.width i)) ((h - down) * (s.width - right)) e (y * (s.width - right) + x) l
+answered-at s h a {x} {y} k e =
+    let c : x < per_row a s.width = omega (arith, k.column) in
+    let r : y < rows a h = omega (arith, k.row) in
+    let l : y * per_row a s.width + x < edge_count a s.width h = omega (arith, number_below c r, mul_comm (rows a h) (per_row a s.width)) in
+    sym (ap (answered s) (edge_in_row a s.width x y c)) ∙ in_span (λ i. answered s (edge_at a s.width i)) (edge_count a s.width h) e (y * per_row a s.width + x) l

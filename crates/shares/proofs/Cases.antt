@@ -2,30 +2,23 @@
 use Prim.Native.Nat.{ℕ, ◌*◌, ◌/◌}
 use mathlib.Core.Path.{◌≡◌, refl, sym, ◌∙◌, ap, ap₂}
 use mathlib.Core.Bool.{Bool, true, false, cond}
+use mathlib.Core.Option.{none, some}
 use mathlib.Core.List.{List, [], ◌∷◌, ◌++◌, flat_map, append-nil}
 use lib.Ieee.{Float}
 use lib.ListN.{length}
-use Rattle.questions.specs.Questions.{all_below}
 use Rattle.geometry.specs.Vector.{Vec2, Vec3, Projected, Triangle}
 use Rattle.meshes.specs.Mesh.{Face}
-use Rattle.meshes.specs.Sound.{SoundMesh}
 use Rattle.meshes.specs.Sums.{Addition}
+use Rattle.inside.specs.Inside.{all_inside, contains, weights_in}
 use Rattle.tris.specs.Tri.{unormal, TriOf}
-use Rattle.crossings.specs.Crossing.{skipped, coefficient0, coefficient1, g_pix}
+use Rattle.tris.specs.Laws.{inside_is}
+use Rattle.crossings.specs.Crossing.{along, skipped, coefficient0, coefficient1, g_pix}
 use Rattle.scattering.specs.Scattering.{given}
-use Rattle.share_rules.specs.Shares.{Share, share, crossing}
+use Rattle.share_rules.specs.Shares.{Share, share, crossing, between}
+use Rattle.share_rules.specs.Steps.{beside_empty}
+use Rattle.share_rules.specs.Laws.{both_empty, both_contain, second-contains, first-contains, neither_contains}
 use Rattle.share_rules.specs.Additions.{additions_of}
 use Rattle.shares.specs.Steps.{given_both, given_crossing}
-
--- a mesh is as sound for another list of the same length
-pub sound_again : {tri : List ℕ} {xs ys : List Float} → SoundMesh tri xs → length ys ≡ length xs → SoundMesh tri ys
-sound_again {tri} {xs} {ys} s e =
-    let k = sym e in
-    record {
-      faces = s.faces;
-      vertices = ap (λ (n : ℕ). 3 * (n / 3)) e ∙ s.vertices ∙ k;
-      named = ap (λ (n : ℕ). all_below (n / 3) tri) e ∙ s.named;
-    }
 
 module _ {m xyz : List Float} {f : Face} {x : Triangle (Vec3 Float)} {t : Triangle (Projected Float)} (o : TriOf m xyz f x t) where
   given_is : (d : Float) (q : Vec2 Float) (g : Float → Vec3 Float) → given m f x t q (g d) ≡ additions_of m xyz d (share f q g)
@@ -49,3 +42,43 @@ crossing_adds {m} {xyz} {f0} {f1} {x0} {x1} {t0} {t1} o0 o1 axis q0 q1 d =
         → cond b [] (a0 ++ a1) ≡ flat_map (additions_of m xyz d) (cond b [] (h0 ∷ h1 ∷ []))
     go true h0 h1 e0 e1 = refl
     go false h0 h1 e0 e1 = ap₂ ◌++◌ e0 e1
+
+-- ---- a face beside an empty pixel
+
+module _ {m xyz : List Float} {f : Face} {x : Triangle (Vec3 Float)} {t : Triangle (Projected Float)} (o : TriOf m xyz f x t) (axis : ℕ) (own other : Vec2 Float) (d : Float) where
+  pub beside_none : all_inside (weights_in other (some t)) ≡ true → flat_map (additions_of m xyz d) (beside_empty axis m xyz f own other) ≡ []
+  unfolding beside_empty flat_map
+  beside_none e = rw (inside_is o other, e)
+
+  pub beside_one : all_inside (weights_in other (some t)) ≡ false → given m f x t own (along axis d) ≡ flat_map (additions_of m xyz d) (beside_empty axis m xyz f own other)
+  unfolding beside_empty
+  beside_one e = rw (inside_is o other, e) (one_adds o d own (along axis))
+
+-- ---- two empty pixels
+
+pub nothing_added : (axis : ℕ) (m xyz : List Float) (q0 q1 : Vec2 Float) (d : Float) → flat_map (additions_of m xyz d) (between axis m xyz none none q0 q1) ≡ []
+unfolding flat_map
+nothing_added axis m xyz q0 q1 d = rw (both_empty axis m xyz q0 q1)
+
+-- ---- two faces, by the two tests
+
+module _ (axis : ℕ) (m xyz : List Float) (f0 f1 : Face) (q0 q1 : Vec2 Float) (d : Float) where
+  abbrev pub Added : List Addition → Type 0
+  Added l = l ≡ flat_map (additions_of m xyz d) (between axis m xyz (some f0) (some f1) q0 q1)
+
+  module _ {x0 : Triangle (Vec3 Float)} {t0 : Triangle (Projected Float)} (o0 : TriOf m xyz f0 x0 t0) (p : contains all_inside m xyz (some f1) q0 ≡ true) where
+    pub both_added : {x1 : Triangle (Vec3 Float)} {t1 : Triangle (Projected Float)} → TriOf m xyz f1 x1 t1 → all_inside (weights_in q1 (some t0)) ≡ true
+        → Added (given_crossing m axis d f0 f1 x0 x1 t0 t1 q0 q1)
+    both_added o1 q = rw (both_contain axis m xyz f0 f1 q0 q1 o0 o1 p (inside_is o0 q1 ∙ q)) (crossing_adds o0 o1 axis q0 q1 d)
+
+    pub first_added : all_inside (weights_in q1 (some t0)) ≡ false → Added (given m f0 x0 t0 q0 (along axis d))
+    first_added q = rw (second-contains axis m xyz f0 f1 q0 q1 p (inside_is o0 q1 ∙ q)) (one_adds o0 d q0 (along axis))
+
+  module _ (p : contains all_inside m xyz (some f1) q0 ≡ false) where
+    pub second_added : {x1 : Triangle (Vec3 Float)} {t1 : Triangle (Projected Float)} → TriOf m xyz f1 x1 t1 → contains all_inside m xyz (some f0) q1 ≡ true
+        → Added (given m f1 x1 t1 q1 (along axis d))
+    second_added o1 q = rw (first-contains axis m xyz f0 f1 q0 q1 p q) (one_adds o1 d q1 (along axis))
+
+    pub none_added : contains all_inside m xyz (some f0) q1 ≡ false → Added []
+    unfolding flat_map
+    none_added q = rw (neither_contains axis m xyz f0 f1 q0 q1 p q)

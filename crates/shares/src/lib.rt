@@ -1,230 +1,156 @@
 // What one pair adds: the shares of two faces, or of one beside an empty pixel. No function here is a public call.
 #![tactic(auto)]
 
-ghost use Rattle.std.specs.Prelude.{◌≡◌, true, ◌*◌, ◌/◌, ◌<◌, length};
+ghost use Rattle.std.specs.Prelude.{◌≡◌, ◌*◌, ◌/◌, ◌<◌, length, IfSome};
 ghost use Rattle.std.proofs.Math.Option.{some};
 ghost use mathlib.Core.List.{flat_map};
 ghost use Rattle.geometry.specs.Answer.{point2};
-ghost use Rattle.meshes.specs.Mesh.{face_at};
-ghost use Rattle.meshes.specs.View.{named, view_of};
+ghost use Rattle.meshes.specs.Mesh.{Among};
+ghost use Rattle.meshes.specs.Answer.{face_of, maybe_face};
 ghost use Rattle.meshes.specs.Sums.{summed};
-ghost use Rattle.meshes.specs.Sound.{SoundMesh, SoundMap};
-ghost use Rattle.pixels.specs.Edge.{axis, edge_from};
-ghost use Rattle.pairs.specs.Pairs.{edge_view, answered};
-ghost use Rattle.pairs.specs.Gradient.{pixel_values};
-ghost use Rattle.pairs.specs.Steps.{SoundValues, Within};
+ghost use Rattle.pairs.specs.Steps.{Within};
+ghost use Rattle.pairs.specs.Answer.{axis_of, edge_of, seen_of};
+ghost use Rattle.pairs.specs.Values.{values_of};
 ghost use Rattle.tris.specs.Answer.{corners_in, projected_in};
-ghost use Rattle.tris.specs.Tri.{Projects, Shows};
+ghost use Rattle.tris.specs.Tri.{Projects};
 ghost use Rattle.share_rules.specs.Shares.{between};
 ghost use Rattle.share_rules.specs.Additions.{additions_of, pair_additions};
 ghost use Rattle.share_rules.specs.Steps.{beside_empty};
 ghost use Rattle.shares.specs.Steps.{given_crossing};
 
 use geometry::Vec2;
+use meshes::Face;
+use pairs::PixelValues;
+use pixels::{Axis, Pixel};
+use share_rules::{AxisPairs, Side};
 use tris::Tri;
 
 // An intersection's two shares, each from its own `Tri` and centre.
+#[tactic(auto, using(meshes::specs::Laws::summed_then), unfolding(crate::specs::Steps::given_crossing, crate::specs::Steps::given_both, meshes::specs::Sums::summed))]
 fn scatter_intersection_gradient(
     sums: &mut [f32],
-    tri2vtx: &[u32],
     m: &[f32; 16],
-    i0: usize,
-    i1: usize,
-    t0: Tri,
-    t1: Tri,
-    q0: Vec2,
-    q1: Vec2,
-    axis: usize,
+    axis: Axis,
+    first: Side,
+    second: Side,
+    t0: &Tri,
+    t1: &Tri,
     d: f32,
 )
-    requires sound_mesh { SoundMesh tri2vtx.now sums.old }
-    requires i0_in_bounds { (i0 < length tri2vtx.now / 3) × (i1 < length tri2vtx.now / 3) }
-    ensures { sums.new ≡ summed sums.old (given_crossing m.now axis d (face_at tri2vtx.now i0) (face_at tri2vtx.now i1)
-        (corners_in t0) (corners_in t1) (projected_in t0) (projected_in t1) (point2 q0) (point2 q1)) }
+    requires first { Among (length sums.old / 3) (face_of first.face) }
+    requires second { Among (length sums.old / 3) (face_of second.face) }
+    ensures { sums.new ≡ summed sums.old (given_crossing m.now axis.down d (face_of first.face) (face_of second.face)
+        (corners_in t0.now) (corners_in t1.now) (projected_in t0.now) (projected_in t1.now) (point2 first.centre) (point2 second.centre)) }
 {
-    let n0 = tris::unormal_pix(t0);
-    let n1 = tris::unormal_pix(t1);
+    let n0 = t0.unormal_pix();
+    let n1 = t1.unormal_pix();
     if crossings::skipped(axis, n0, n1) {
         return;
     }
-    scattering::scatter(
-        sums,
-        tri2vtx,
-        m,
-        i0,
-        t0,
-        q0,
-        crossings::g_pix(d, crossings::coefficient0(axis, n0, n1), n0),
-    );
-    scattering::scatter(
-        sums,
-        tri2vtx,
-        m,
-        i1,
-        t1,
-        q1,
-        crossings::g_pix(d, crossings::coefficient1(axis, n0, n1), n1),
-    );
+    let g0 = crossings::g_pix(d, crossings::coefficient0(axis, n0, n1), n0);
+    scattering::scatter(sums, m, first.face, t0, first.centre, g0);
+    let g1 = crossings::g_pix(d, crossings::coefficient1(axis, n0, n1), n1);
+    scattering::scatter(sums, m, second.face, t1, second.centre, g1);
 }
 
-// Face number i beside an empty pixel: `own` is its pixel's centre, `other` the empty one's.
-fn scatter_beside_empty(
-    sums: &mut [f32],
-    tri2vtx: &[u32],
-    vtx2xyz: &[f32],
-    m: &[f32; 16],
-    i: usize,
-    own: Vec2,
-    other: Vec2,
-    axis: usize,
-    d: f32,
-)
-    requires sound_mesh { SoundMesh tri2vtx.now vtx2xyz.now }
-    requires projects { Projects tri2vtx.now m.now vtx2xyz.now i }
-    requires sums_len { length sums.old ≡ length vtx2xyz.now }
-    ensures { sums.new ≡ summed sums.old
-        (flat_map (additions_of m.now vtx2xyz.now d)
-        (beside_empty axis m.now vtx2xyz.now (face_at tri2vtx.now i) (point2 own) (point2 other))) }
+// A face beside an empty pixel, whose centre is `other`.
+fn scatter_beside_empty(sums: &mut [f32], pairs: &AxisPairs, own: Side, other: Vec2, d: f32)
+    requires projects { Projects pairs.now.view.m.now pairs.now.view.mesh.vtx2xyz.now (face_of own.face) }
+    requires lent { length sums.old ≡ length pairs.now.view.mesh.vtx2xyz.now }
+    ensures { sums.new ≡ summed sums.old (flat_map (additions_of pairs.now.view.m.now pairs.now.view.mesh.vtx2xyz.now d)
+        (beside_empty pairs.now.axis.down pairs.now.view.m.now pairs.now.view.mesh.vtx2xyz.now (face_of own.face) (point2 own.centre) (point2 other))) }
 {
-    let t = tris::tri_new(tri2vtx, vtx2xyz, m, i);
-    if tris::is_inside(t, other) {
+    let m = pairs.view.m;
+    let t = Tri::new(&pairs.view.mesh, m, own.face);
+    if t.is_inside(other) {
         return;
     }
-    scattering::scatter(sums, tri2vtx, m, i, t, own, crossings::along(axis, d));
+    let g = crossings::along(pairs.axis, d);
+    scattering::scatter(sums, m, own.face, &t, own.centre, g);
 }
 
 // Two faces, by which of the two centres lies inside the other's face: mostly neither does, and no more is worked out.
-fn scatter_between(
-    sums: &mut [f32],
-    tri2vtx: &[u32],
-    vtx2xyz: &[f32],
-    m: &[f32; 16],
-    i0: usize,
-    i1: usize,
-    q0: Vec2,
-    q1: Vec2,
-    axis: usize,
-    d: f32,
-)
-    requires sound_mesh { SoundMesh tri2vtx.now vtx2xyz.now }
-    requires projects { Projects tri2vtx.now m.now vtx2xyz.now i0 }
-    requires projects_2 { Projects tri2vtx.now m.now vtx2xyz.now i1 }
-    requires sums_len { length sums.old ≡ length vtx2xyz.now }
-    ensures { sums.new ≡ summed sums.old (flat_map (additions_of m.now vtx2xyz.now d)
-        (between axis m.now vtx2xyz.now (some (face_at tri2vtx.now i0)) (some (face_at tri2vtx.now i1)) (point2 q0) (point2 q1))) }
+fn scatter_between(sums: &mut [f32], pairs: &AxisPairs, first: Side, second: Side, d: f32)
+    requires first { Projects pairs.now.view.m.now pairs.now.view.mesh.vtx2xyz.now (face_of first.face) }
+    requires second { Projects pairs.now.view.m.now pairs.now.view.mesh.vtx2xyz.now (face_of second.face) }
+    requires lent { length sums.old ≡ length pairs.now.view.mesh.vtx2xyz.now }
+    ensures { sums.new ≡ summed sums.old (flat_map (additions_of pairs.now.view.m.now pairs.now.view.mesh.vtx2xyz.now d)
+        (between pairs.now.axis.down pairs.now.view.m.now pairs.now.view.mesh.vtx2xyz.now (some (face_of first.face)) (some (face_of second.face))
+        (point2 first.centre) (point2 second.centre))) }
 {
-    if inside::face_contains(tri2vtx, vtx2xyz, m, i1, q0) {
-        let t0 = tris::tri_new(tri2vtx, vtx2xyz, m, i0);
-        if tris::is_inside(t0, q1) {
-            let t1 = tris::tri_new(tri2vtx, vtx2xyz, m, i1);
-            scatter_intersection_gradient(sums, tri2vtx, m, i0, i1, t0, t1, q0, q1, axis, d);
-            return;
+    let mesh = &pairs.view.mesh;
+    let m = pairs.view.m;
+    if inside::face_contains(mesh, m, second.face, first.centre) {
+        let t0 = Tri::new(mesh, m, first.face);
+        if t0.is_inside(second.centre) {
+            let t1 = Tri::new(mesh, m, second.face);
+            scatter_intersection_gradient(sums, m, pairs.axis, first, second, &t0, &t1, d);
+        } else {
+            let g = crossings::along(pairs.axis, d);
+            scattering::scatter(sums, m, first.face, &t0, first.centre, g);
         }
-        scattering::scatter(sums, tri2vtx, m, i0, t0, q0, crossings::along(axis, d));
-        return;
+    } else if inside::face_contains(mesh, m, first.face, second.centre) {
+        let t1 = Tri::new(mesh, m, second.face);
+        let g = crossings::along(pairs.axis, d);
+        scattering::scatter(sums, m, second.face, &t1, second.centre, g);
     }
-    if !inside::face_contains(tri2vtx, vtx2xyz, m, i0, q1) {
-        return;
-    }
-    let t1 = tris::tri_new(tri2vtx, vtx2xyz, m, i1);
-    scattering::scatter(sums, tri2vtx, m, i1, t1, q1, crossings::along(axis, d));
 }
 
-// Two entries that are not equal.
+// What two pixels show whose entries are not equal, and their centres.
+#[tactic(auto, using(crate::proofs::Cases::nothing_added, share_rules::specs::Laws::after_empty, share_rules::specs::Laws::before_empty), unfolding(meshes::specs::Sums::summed))]
 fn scatter_unequal(
     sums: &mut [f32],
-    tri2vtx: &[u32],
-    vtx2xyz: &[f32],
-    m: &[f32; 16],
-    first: u32,
-    second: u32,
+    pairs: &AxisPairs,
+    first: Option<Face>,
+    second: Option<Face>,
     q0: Vec2,
     q1: Vec2,
-    axis: usize,
     d: f32,
 )
-    requires sound_mesh { SoundMesh tri2vtx.now vtx2xyz.now }
-    requires shows { Shows tri2vtx.now m.now vtx2xyz.now first }
-    requires shows_2 { Shows tri2vtx.now m.now vtx2xyz.now second }
-    requires sums_len { length sums.old ≡ length vtx2xyz.now }
-    ensures { sums.new ≡ summed sums.old (flat_map (additions_of m.now vtx2xyz.now d)
-        (between axis m.now vtx2xyz.now (named tri2vtx.now first) (named tri2vtx.now second) (point2 q0) (point2 q1))) }
+    requires first { IfSome first (λ f. Projects pairs.now.view.m.now pairs.now.view.mesh.vtx2xyz.now (face_of f)) }
+    requires second { IfSome second (λ f. Projects pairs.now.view.m.now pairs.now.view.mesh.vtx2xyz.now (face_of f)) }
+    requires lent { length sums.old ≡ length pairs.now.view.mesh.vtx2xyz.now }
+    ensures { sums.new ≡ summed sums.old (flat_map (additions_of pairs.now.view.m.now pairs.now.view.mesh.vtx2xyz.now d)
+        (between pairs.now.axis.down pairs.now.view.m.now pairs.now.view.mesh.vtx2xyz.now (maybe_face first) (maybe_face second) (point2 q0) (point2 q1))) }
 {
-    if first == questions::EMPTY {
-        if second == questions::EMPTY {
-            return;
+    match (first, second) {
+        (Some(f0), Some(f1)) => {
+            let first = Side {
+                face: f0,
+                centre: q0,
+            };
+            let second = Side {
+                face: f1,
+                centre: q1,
+            };
+            scatter_between(sums, pairs, first, second, d);
         }
-        scatter_beside_empty(sums, tri2vtx, vtx2xyz, m, second as usize, q1, q0, axis, d);
-        return;
+        (Some(face), None) => {
+            scatter_beside_empty(sums, pairs, Side { face, centre: q0 }, q1, d);
+        }
+        (None, Some(face)) => {
+            scatter_beside_empty(sums, pairs, Side { face, centre: q1 }, q0, d);
+        }
+        (None, None) => {}
     }
-    if second == questions::EMPTY {
-        scatter_beside_empty(sums, tri2vtx, vtx2xyz, m, first as usize, q0, q1, axis, d);
-        return;
-    }
-    scatter_between(
-        sums,
-        tri2vtx,
-        vtx2xyz,
-        m,
-        first as usize,
-        second as usize,
-        q0,
-        q1,
-        axis,
-        d,
-    );
 }
 
-// What the pair whose first pixel is (x, y) adds. `right` and `down` lead to its second pixel; `down` is the Rust's axis, too.
-pub fn scatter_pair(
-    sums: &mut [f32],
-    tri2vtx: &[u32],
-    vtx2xyz: &[f32],
-    m: &[f32; 16],
-    img_w: usize,
-    img_h: usize,
-    pix2tri: &[u32],
-    num_vdim: usize,
-    pix2val: &[f32],
-    dldw_pix2val: &[f32],
-    x: usize,
-    y: usize,
-    right: usize,
-    down: usize,
-)
-    requires sound_map { SoundMap «tri2vtx».now «vtx2xyz».now «pix2tri».now img_w img_h }
-    requires sound_values { SoundValues (pixel_values «pix2val».now dldw_pix2val.now num_vdim) (img_w * img_h) }
-    requires sums_len { length sums.old ≡ length «vtx2xyz».now }
-    requires within { Within img_w img_h right down x y }
-    requires y_value { answered (edge_view (view_of «tri2vtx».now «pix2tri».now) m.now «vtx2xyz».now img_w) (edge_from (axis right down) x y) ≡ true }
-    ensures { sums.new ≡ summed sums.old (pair_additions (axis right down)
-        (edge_view (view_of «tri2vtx».now «pix2tri».now) m.now «vtx2xyz».now img_w)
-        (pixel_values «pix2val».now dldw_pix2val.now num_vdim) (edge_from (axis right down) x y)) }
+// What the pair whose first pixel is p adds.
+pub fn scatter_pair(sums: &mut [f32], pairs: &AxisPairs, values: &PixelValues, p: Pixel)
+    requires within { Within pairs.now.view.size.w pairs.now.view.size.h pairs.now.axis.right pairs.now.axis.down p.x p.y }
+    requires pixels { values.now.pixels ≡ pairs.now.view.size.w * pairs.now.view.size.h }
+    requires lent { length sums.old ≡ length pairs.now.view.mesh.vtx2xyz.now }
+    ensures { sums.new
+        ≡ summed sums.old (pair_additions (axis_of pairs.now.axis) (seen_of pairs.now.view) (values_of values.now) (edge_of pairs.now.axis p)) }
 {
-    let pair = pairs::pair_at(img_w, img_h, pix2tri, x, y, right, down);
+    let pair = pairs::pair_at(&pairs.view, p, pairs.axis);
     if pair.first == pair.second {
         return;
     }
-    let q0 = pixels::centre_of(x, y);
-    let q1 = pixels::centre_of(x + right, y + down);
-    let d = pairs::dldr(
-        pix2val,
-        dldw_pix2val,
-        num_vdim,
-        pair.p,
-        pair.q,
-        img_w * img_h,
-    );
-    scatter_unequal(
-        sums,
-        tri2vtx,
-        vtx2xyz,
-        m,
-        pair.first,
-        pair.second,
-        q0,
-        q1,
-        down,
-        d,
-    );
+    let first = pairs.view.mesh.named(pair.first);
+    let second = pairs.view.mesh.named(pair.second);
+    let q0 = pixels::centre_of(p);
+    let q1 = pixels::centre_of(pairs::neighbour(p, pairs.axis));
+    let d = values.dldr(pair.p, pair.q);
+    scatter_unequal(sums, pairs, first, second, q0, q1, d);
 }

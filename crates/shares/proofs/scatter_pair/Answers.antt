@@ -1,30 +1,41 @@
+use mathlib.Core.Path.{sym, ◌∙◌}
 use mathlib.Core.List.{flat_map}
-use native.Mathlib.Omega.{arith}
-use Rattle.questions.specs.Laws.{area}
 use Rattle.meshes.specs.Sums.{summed}
-use Rattle.pixels.specs.Edge.{axis}
+use Rattle.pairs.specs.Answer.{axis_of, seen_of}
 use Rattle.share_rules.specs.Additions.{pair_additions}
-use Rattle.share_rules.specs.Laws.{shares_equal, shares_unequal, both-shown}
+use Rattle.share_rules.specs.Laws.{shares_equal, shares_unequal, first-projects, second-projects, answered-at}
 use Rattle.shares.proofs.scatter_pair.Goals as goal
 
 pub returns-then-pair : goal.returns-then-pair
 unfolding pair_additions flat_map summed
-returns-then-pair c = rw (shares_equal c.args.tri2vtx.now c.args.m.now c.args.vtx2xyz.now (axis c.args.right c.args.down) c.pair_at-pair.ensures c.if-pair.true)
+returns-then-pair c = let v = c.args.pairs.now.view in rw (shares_equal v.mesh.tri2vtx.now v.m.now v.mesh.vtx2xyz.now (axis_of c.args.pairs.now.axis) c.pair_at-pair.ensures.pair c.if-pair.true)
 
-pub overflow_mul-img_w : goal.overflow_mul-img_w
-overflow_mul-img_w c = record { fits = omega (arith, area 1 _ _ c.requires.sound_map.size) }
+pub scatter_unequal-requires-clause-first : goal.scatter_unequal-requires-clause-first
+scatter_unequal-requires-clause-first c =
+    let v = c.args.pairs.now.view in
+    let ok = answered-at (seen_of v) v.size.h (axis_of c.args.pairs.now.axis) c.requires.within c.args.pairs.now.answered in
+    first-projects v.mesh.tri2vtx.now v.m.now v.mesh.vtx2xyz.now c.pair_at-pair.ensures.pair c.if-pair.false ok _ c.named-first.ensures.among c.named-first.ensures.face
 
-pub scatter_unequal-requires : goal.scatter_unequal-requires
-scatter_unequal-requires c = let shown = both-shown c.requires.sound_map c.args.m.now c.pair_at-pair.ensures c.if-pair.false c.requires.y_value in record { sound_mesh = c.requires.sound_map.mesh; shows = shown.0; shows_2 = shown.1; sums_len = c.requires.sums_len }
+pub scatter_unequal-requires-clause-second : goal.scatter_unequal-requires-clause-second
+scatter_unequal-requires-clause-second c =
+    let v = c.args.pairs.now.view in
+    let ok = answered-at (seen_of v) v.size.h (axis_of c.args.pairs.now.axis) c.requires.within c.args.pairs.now.answered in
+    second-projects v.mesh.tri2vtx.now v.m.now v.mesh.vtx2xyz.now c.pair_at-pair.ensures.pair c.if-pair.false ok _ c.named-second.ensures.among c.named-second.ensures.face
 
 pub returns : goal.returns
 unfolding pair_additions
-returns c = rw (
-  shares_unequal c.args.tri2vtx.now c.args.m.now c.args.vtx2xyz.now (axis c.args.right c.args.down) c.pair_at-pair.ensures c.if-pair.false,
-  ← c.pair_at-pair.ensures.p_number,
-  ← c.pair_at-pair.ensures.q_number,
-  ← c.dldr-d.ensures,
-  ← c.centre_of-q0.ensures,
-  ← c.centre_of-q1.ensures,
-)
+returns c =
+    let v = c.args.pairs.now.view in
+    rw (
+      shares_unequal v.mesh.tri2vtx.now v.m.now v.mesh.vtx2xyz.now (axis_of c.args.pairs.now.axis) c.pair_at-pair.ensures.pair c.if-pair.false,
+      ← c.pair_at-pair.ensures.pair.p_number,
+      ← c.pair_at-pair.ensures.pair.q_number,
+      ← c.dldr-d.ensures,
+      ← c.named-first.ensures.face,
+      ← c.named-second.ensures.face,
+      ← c.centre_of-q0.ensures,
+      ← c.neighbour.ensures.column,
+      ← c.neighbour.ensures.row,
+      ← c.centre_of-q1.ensures,
+    )
     c.scatter_unequal.ensures
