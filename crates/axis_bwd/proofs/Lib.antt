@@ -1,2 +1,2 @@
--- laws that the proof cites
+-- a law that the proofs cite
 pub mod Turns

@@ -15,3 +15,7 @@ edge_down a h i = edge_from a (i / rows a h) (i % rows a h)
 -- of an axis, in an image h high
 unfoldable pub axis_additions : Axis → ℕ → EdgeView → PixelValues → List Addition
 axis_additions a h s v = flat_map (λ i. pair_additions a s v (edge_down a h i)) (span 0 (edge_count a s.width h))
+
+-- of the pairs whose first pixels lie in column x
+unfoldable pub column_additions : Axis → ℕ → EdgeView → PixelValues → ℕ → List Addition
+column_additions a h s v x = flat_map (λ y. pair_additions a s v (edge_from a x y)) (span 0 (rows a h))

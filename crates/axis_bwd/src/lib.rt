@@ -1,65 +1,39 @@
 // What an axis's pairs of pixels add, one after the other. No function here is a public call.
 #![tactic(auto)]
 
-ghost use Rattle.std.specs.Prelude.{◌≡◌, true, ◌*◌, ◌≤◌, length};
-ghost use Rattle.meshes.specs.View.{view_of};
+ghost use Rattle.std.specs.Prelude.{◌≡◌, ◌+◌, ◌*◌, ◌<◌, length};
 ghost use Rattle.meshes.specs.Sums.{summed};
-ghost use Rattle.meshes.specs.Sound.{SoundMap};
-ghost use Rattle.pixels.specs.Edge.{axis};
-ghost use Rattle.pairs.specs.Pairs.{edge_view, all_answered};
-ghost use Rattle.pairs.specs.Gradient.{pixel_values};
-ghost use Rattle.pairs.specs.Steps.{SoundValues};
-ghost use Rattle.axis_bwd.specs.Additions.{axis_additions};
+ghost use Rattle.pairs.specs.Answer.{axis_of, seen_of};
+ghost use Rattle.pairs.specs.Values.{values_of};
+ghost use Rattle.axis_bwd.specs.Additions.{column_additions, axis_additions};
 
-// Column by column, from the top. `right` and `down` lead from a pair's first pixel to its second.
-pub fn scatter_axis(
-    sums: &mut [f32],
-    tri2vtx: &[u32],
-    vtx2xyz: &[f32],
-    m: &[f32; 16],
-    img_w: usize,
-    img_h: usize,
-    pix2tri: &[u32],
-    num_vdim: usize,
-    pix2val: &[f32],
-    dldw_pix2val: &[f32],
-    right: usize,
-    down: usize,
-)
-    requires sound_map { SoundMap «tri2vtx».now «vtx2xyz».now «pix2tri».now img_w img_h }
-    requires sound_values { SoundValues (pixel_values «pix2val».now dldw_pix2val.now num_vdim) (img_w * img_h) }
-    requires sums_len { length sums.old ≡ length «vtx2xyz».now }
-    requires right_bound { (right ≤ 1) × (down ≤ 1) }
-    requires img_w_value { all_answered (axis right down) img_h (edge_view (view_of «tri2vtx».now «pix2tri».now) m.now «vtx2xyz».now img_w) ≡ true }
-    ensures { sums.new ≡ summed sums.old (axis_additions (axis right down) img_h
-        (edge_view (view_of «tri2vtx».now «pix2tri».now) m.now «vtx2xyz».now img_w)
-        (pixel_values «pix2val».now dldw_pix2val.now num_vdim)) }
+use pairs::PixelValues;
+use pixels::Pixel;
+use share_rules::AxisPairs;
+
+// The pairs whose first pixels lie in column x, from the top.
+#[tactic(auto, using(meshes::specs::Laws::turns_none, meshes::specs::Laws::turns_more), unfolding(crate::specs::Additions::column_additions))]
+fn scatter_column(sums: &mut [f32], pairs: &AxisPairs, values: &PixelValues, x: usize)
+    requires in_row { x + pairs.now.axis.right < pairs.now.view.size.w }
+    requires pixels { values.now.pixels ≡ pairs.now.view.size.w * pairs.now.view.size.h }
+    requires lent { length sums.old ≡ length pairs.now.view.mesh.vtx2xyz.now }
+    ensures { sums.new
+        ≡ summed sums.old (column_additions (axis_of pairs.now.axis) pairs.now.view.size.h (seen_of pairs.now.view) (values_of values.now) x) }
 {
-    let rows = img_h - down;
-    let n = rows * (img_w - right);
-    let mut x = 0;
-    let mut y = 0;
-    let mut i = 0;
-    while i < n {
-        shares::scatter_pair(
-            sums,
-            tri2vtx,
-            vtx2xyz,
-            m,
-            img_w,
-            img_h,
-            pix2tri,
-            num_vdim,
-            pix2val,
-            dldw_pix2val,
-            x,
-            y,
-            right,
-            down,
-        );
-        let next = pixels::next(y, x, rows);
-        x = next.y;
-        y = next.x;
-        i += 1;
+    for y in 0..pairs.view.size.h - pairs.axis.down {
+        shares::scatter_pair(sums, pairs, values, Pixel { x, y });
+    }
+}
+
+// Column by column.
+#[tactic(auto, using(meshes::specs::Laws::turns_none, meshes::specs::Laws::turns_more, crate::proofs::Turns::by_columns))]
+pub fn scatter_axis(sums: &mut [f32], pairs: &AxisPairs, values: &PixelValues)
+    requires pixels { values.now.pixels ≡ pairs.now.view.size.w * pairs.now.view.size.h }
+    requires lent { length sums.old ≡ length pairs.now.view.mesh.vtx2xyz.now }
+    ensures { sums.new
+        ≡ summed sums.old (axis_additions (axis_of pairs.now.axis) pairs.now.view.size.h (seen_of pairs.now.view) (values_of values.now)) }
+{
+    for x in 0..pairs.view.size.w - pairs.axis.right {
+        scatter_column(sums, pairs, values, x);
     }
 }

@@ -1,4 +1,3 @@
-use mathlib.Core.Path.{◌∙◌, ap}
 use Rattle.lists.specs.Laws.Tests.{so}
 use Rattle.geometry.specs.Answer.{point2}
 use Rattle.meshes.specs.Sums.{summed}

@@ -1,4 +1,3 @@
-use mathlib.Core.Path.{sym, ◌∙◌}
 use mathlib.Core.List.{flat_map}
 use Rattle.meshes.specs.Sums.{summed}
 use Rattle.pairs.specs.Answer.{axis_of, seen_of}
