@@ -14,10 +14,10 @@ ghost use Rattle.floats.specs.Narrow.{narrow, hypot_of};
 pub fn narrow_f64_to_f32(x: f64) -> f32
     ensures { result ≡ narrow x }
 {
-    if x != x {
-        return 0.0 / 0.0;
+    if x.is_nan() {
+        return f32::NAN;
     }
-    let b: u64 = f64::to_bits(x);
+    let b = x.to_bits();
     let minus = 0x8000_0000_0000_0000 <= b;
     let field = b % 0x8000_0000_0000_0000 / 0x10_0000_0000_0000;
     let digits = b % 0x10_0000_0000_0000;
@@ -33,11 +33,12 @@ pub fn narrow_f64_to_f32(x: f64) -> f32
 }
 
 // The length of (a, b): both widened, a·a + b·b in f64, root, narrowed.
+#[tactic(auto, unfolding(crate::specs::Narrow::hypot_of))]
 pub fn hypot_f32(a: f32, b: f32) -> f32
     ensures { result ≡ hypot_of a b }
 {
-    let x = std::num::f32_to_f64_with_nan(a);
-    let y = std::num::f32_to_f64_with_nan(b);
+    let x = f64::from(a);
+    let y = f64::from(b);
     narrow_f64_to_f32(roots::sqrt_f64(x * x + y * y))
 }
 
@@ -47,7 +48,7 @@ fn narrow_units(minus: bool, q: u64, k: u64) -> f32
     ensures { result ≡ round binary32 minus (q * 2 ^ k) (2 ^ 1074) }
 {
     // The f32's smallest value is 2^925 of them, and a full f64 significand drops 29 digits.
-    let dropped = if k < 896 { 0 } else { k - 896 };
+    let dropped = k.saturating_sub(896);
     pack_f32(minus, shift_nearest(q, 925 + dropped - k), dropped)
 }
 
@@ -59,7 +60,7 @@ fn shift_nearest(q: u64, by: u64) -> u64
     if 62 < by {
         return 0;
     }
-    let unit: u64 = 1 << by;
+    let unit = 1 << by;
     let kept = q >> by;
     let rest = (q - (kept << by)) * 2;
     if rest < unit {
@@ -77,11 +78,11 @@ fn pack_f32(minus: bool, q: u64, k: u64) -> f32
     requires { Packable binary32 q k }
     ensures { result ≡ units binary32 minus q k }
 {
-    let code: u64 = if k < 254 {
+    let code = if k < 254 {
         k * 0x80_0000 + q
     } else {
         0x7f80_0000
     };
-    let sign: u64 = if minus { 0x8000_0000 } else { 0 };
+    let sign = if minus { 0x8000_0000 } else { 0 };
     f32::from_bits((sign + code) as u32)
 }

@@ -9,50 +9,36 @@
 use std::io;
 use std::io::{Read, Write};
 
-const SPACE: u8 = 32;
-
-const LINE_END: u8 = 10;
+// Every word, and what the first of two counts.
+const WORDS: u64 = 0x1_0000_0000;
 
 fn answer(tool: u32, high: u32, low: u32) -> u64 {
-    let pattern = (high as u64) * 0x1_0000_0000 + low as u64;
-    if tool == 1 {
-        return words::of_f32(roots::sqrt_f32(words::f32_of(low))) as u64;
+    let pattern = high as u64 * WORDS + low as u64;
+    match tool {
+        1 => words::of_f32(roots::sqrt_f32(words::f32_of(low))) as u64,
+        2 => words::of_f64(roots::sqrt_f64(words::f64_of(pattern))),
+        3 => words::of_f32(floats::narrow_f64_to_f32(words::f64_of(pattern))) as u64,
+        _ => words::of_f32(floats::hypot_f32(words::f32_of(high), words::f32_of(low))) as u64,
     }
-    if tool == 2 {
-        return words::of_f64(roots::sqrt_f64(words::f64_of(pattern)));
-    }
-    if tool == 3 {
-        return words::of_f32(floats::narrow_f64_to_f32(words::f64_of(pattern))) as u64;
-    }
-    words::of_f32(floats::hypot_f32(words::f32_of(high), words::f32_of(low))) as u64
 }
 
 // Runs the next vector, and answers whether there was one.
 fn run_one<R: Read, W: Write>(input: &mut R, output: &mut W) -> io::Result<bool> {
-    let words::Word::Bits(tool) = words::read(input)? else {
-        return Ok(false);
-    };
-    let words::Word::Bits(high) = words::read(input)? else {
-        return Ok(false);
-    };
-    let words::Word::Bits(low) = words::read(input)? else {
+    let Some([tool, high, low]) = words::read(input)? else {
         return Ok(false);
     };
     let bits = answer(tool, high, low);
-    words::write(output, tool, SPACE)?;
-    words::write(output, high, SPACE)?;
-    words::write(output, low, SPACE)?;
-    words::write(output, (bits / 0x1_0000_0000) as u32, SPACE)?;
-    words::write(output, (bits % 0x1_0000_0000) as u32, LINE_END)?;
+    writeln!(output, "{tool:08x} {high:08x} {low:08x} {:08x} {:08x}", bits / WORDS, bits % WORDS)?;
     Ok(true)
 }
 
 fn main(rt: HostRuntime) -> io::Result<()> {
     let mut input = rt.reader();
     let mut output = io::writer(&rt);
-    let mut turns: u64 = 1_000_000;
-    while turns > 0 && run_one(&mut input, &mut output)? {
-        turns -= 1;
+    for _ in 0..1_000_000 {
+        if !run_one(&mut input, &mut output)? {
+            break;
+        }
     }
     Ok(())
 }

@@ -3,104 +3,77 @@
 // has one NaN and no patterns of it, so every NaN is read as that one and written as 7fc00000.
 #![tactic(auto)]
 
-ghost use Rattle.std.specs.Prelude.{◌≡◌, ◌<◌};
+ghost use Rattle.std.specs.Prelude.{◌≡◌};
 ghost use Rattle.std.specs.Float.{binary32, binary64};
 ghost use Rattle.std.specs.Float.Ieee.{of_bits};
 ghost use Rattle.words.specs.Patterns.{pattern_of};
 
 use std::io;
-use std::io::{ErrorKind, Read, Write};
+use std::io::{ErrorKind, Read};
 
-#[derive(Clone, Copy)]
-pub enum Word {
-    Bits(u32),
-    End,
-}
-
-// The next word of an input; the end where fewer than nine bytes are left, or one of the first
-// eight is no digit.
-pub fn read<R: Read>(input: &mut R) -> io::Result<Word> {
-    let mut text = [0u8; 9];
-    match input.read_exact(&mut text) {
-        Ok(()) => Ok(word_in(&text)),
-        Err(e) if e.kind() == ErrorKind::UnexpectedEof => Ok(Word::End),
-        Err(e) => Err(e),
+// The next N words of an input; none where there are not so many.
+pub fn read<R: Read, const N: usize>(input: &mut R) -> io::Result<Option<[u32; N]>> {
+    let mut words = [0; N];
+    for word in &mut words {
+        let Some(next) = read_word(input)? else {
+            return Ok(None);
+        };
+        *word = next;
     }
-}
-
-// Writes a word and the byte after it.
-pub fn write<W: Write>(output: &mut W, word: u32, after: u8) -> io::Result<()> {
-    write!(output, "{word:08x}")?;
-    output.write_all(&[after])
+    Ok(Some(words))
 }
 
 // The float of a pattern.
 pub fn f32_of(word: u32) -> f32
     ensures { result ≡ of_bits binary32 word }
 {
-    if 0x7f80_0000 < word % 0x8000_0000 {
-        return 0.0 / 0.0;
-    }
-    f32::from_bits(word)
+    std::num::f32_from_bits_with_nan(word)
 }
 
 pub fn f64_of(pattern: u64) -> f64
     ensures { result ≡ of_bits binary64 pattern }
 {
-    if 0x7ff0_0000_0000_0000 < pattern % 0x8000_0000_0000_0000 {
-        return 0.0 / 0.0;
-    }
-    f64::from_bits(pattern)
+    std::num::f64_from_bits_with_nan(pattern)
 }
 
 // The pattern of a float.
+#[tactic(auto, using(crate::proofs::Nan::pattern_is))]
 pub fn of_f32(x: f32) -> u32
     ensures { result ≡ pattern_of binary32 x }
 {
-    if x != x {
-        return 0x7fc0_0000;
-    }
-    f32::to_bits(x)
+    std::num::f32_to_bits_with_nan(x)
 }
 
+#[tactic(auto, using(crate::proofs::Nan::pattern_is))]
 pub fn of_f64(x: f64) -> u64
     ensures { result ≡ pattern_of binary64 x }
 {
-    if x != x {
-        return 0x7ff8_0000_0000_0000;
-    }
-    f64::to_bits(x)
+    std::num::f64_to_bits_with_nan(x)
 }
 
-fn word_in(text: &[u8; 9]) -> Word {
+// The next word; none where fewer than nine bytes are left, or one of the first eight is no digit.
+fn read_word<R: Read>(input: &mut R) -> io::Result<Option<u32>> {
+    let mut text = [0; 9];
+    match input.read_exact(&mut text) {
+        Ok(()) => Ok(word_in(&text[..8])),
+        Err(e) if e.kind() == ErrorKind::UnexpectedEof => Ok(None),
+        Err(e) => Err(e),
+    }
+}
+
+// The word of eight digits. (`u32::from_str_radix` takes a sign and upper-case digits too.)
+fn word_in(text: &[u8]) -> Option<u32> {
     let mut word: u32 = 0;
-    let mut i: usize = 0;
-    while i < 8 {
-        let digit = digit_of(text[i]);
-        if 15 < digit {
-            return Word::End;
-        }
-        word = word % 0x1000_0000 * 16 + digit;
-        i += 1;
+    for byte in text {
+        word = word << 4 | digit(*byte)?;
     }
-    Word::Bits(word)
+    Some(word)
 }
 
-// The value of a digit, or 16 where the byte is none.
-fn digit_of(byte: u8) -> u32
-    ensures { result < 17 }
-{
-    if byte < 48 {
-        return 16;
+fn digit(byte: u8) -> Option<u32> {
+    match byte {
+        b'0'..=b'9' => Some((byte - b'0') as u32),
+        b'a'..=b'f' => Some((byte - b'a' + 10) as u32),
+        _ => None,
     }
-    if byte < 58 {
-        return (byte - 48) as u32;
-    }
-    if byte < 97 {
-        return 16;
-    }
-    if byte < 103 {
-        return (byte - 87) as u32;
-    }
-    16
 }

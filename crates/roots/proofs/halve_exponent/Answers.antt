@@ -50,32 +50,32 @@ module _ (k z p l : ℕ) (asked : (k < 2048) × (z < 64) × (p < 54) × (l < 204
   dropped_is = unsigned at-dropped.held (h + (l + 32 - p) - 4096) (omega arith)
 
 pub overflow_sub-e : goal.overflow_sub-e
-overflow_sub-e c = (at-e c.args.k c.args.z c.args.p c.args.l c.requires).fit
+overflow_sub-e c = (at-e c.args.k c.args.z c.args.f.digits c.args.f.least c.requires).fit
 
 pub overflow_add-half : goal.overflow_add-half
-overflow_add-half c = (at_next c.args.k c.args.z c.args.p c.args.l c.requires).fit
+overflow_add-half c = (at_next c.args.k c.args.z c.args.f.digits c.args.f.least c.requires).fit
 
 pub overflow_add-odd : goal.overflow_add-odd
-overflow_add-odd c = (at_twice c.args.k c.args.z c.args.p c.args.l c.requires).fit
+overflow_add-odd c = (at_twice c.args.k c.args.z c.args.f.digits c.args.f.least c.requires).fit
 
 pub overflow_sub-odd : goal.overflow_sub-odd
-overflow_sub-odd c = (at_odd c.args.k c.args.z c.args.p c.args.l c.requires).fit
+overflow_sub-odd c = (at_odd c.args.k c.args.z c.args.f.digits c.args.f.least c.requires).fit
 
 pub overflow_add-dropped-2 : goal.overflow_add-dropped-2
-overflow_add-dropped-2 c = (at-dropped c.args.k c.args.z c.args.p c.args.l c.requires).fit
+overflow_add-dropped-2 c = (at-dropped c.args.k c.args.z c.args.f.digits c.args.f.least c.requires).fit
 
 pub overflow_cast-result : goal.overflow_cast-result
 overflow_cast-result c =
-    let r = odd_is c.args.k c.args.z c.args.p c.args.l c.requires in
+    let r = odd_is c.args.k c.args.z c.args.f.digits c.args.f.least c.requires in
     (r.sign, record { fits = omega (arith, r.is) })
 
 pub overflow_cast-result-2 : goal.overflow_cast-result-2
 overflow_cast-result-2 c =
-    let r = dropped_is c.args.k c.args.z c.args.p c.args.l c.requires in
+    let r = dropped_is c.args.k c.args.z c.args.f.digits c.args.f.least c.requires in
     (r.sign, record { fits = omega (arith, r.is) })
 
 pub returns : goal.returns
 returns c =
-    let odd = (odd_is c.args.k c.args.z c.args.p c.args.l c.requires).is in
-    let dropped = (dropped_is c.args.k c.args.z c.args.p c.args.l c.requires).is in
+    let odd = (odd_is c.args.k c.args.z c.args.f.digits c.args.f.least c.requires).is in
+    let dropped = (dropped_is c.args.k c.args.z c.args.f.digits c.args.f.least c.requires).is in
     record { bit = omega (arith, odd); half = omega (arith, odd, dropped) }

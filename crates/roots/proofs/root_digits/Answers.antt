@@ -2,7 +2,6 @@
 use mathlib.Core.Path.{◌≡◌, subst}
 use Prim.Native.Nat.{ℕ, ◌*◌, ◌/◌, ◌^◌, ◌≤◌, ◌<◌}
 use native.Mathlib.Omega.{arith}
-use native.Mathlib.Nat.{le_antisymm}
 use Rattle.roots.proofs.Whole.{IsRoot, Turned, turned_lt, turned-root, turn_one, turn-zero, root_unique, whole_root_is}
 use Rattle.roots.proofs.root_digits.Goals.{then-next-rest, else-next-rest}
 use Rattle.roots.proofs.root_digits.Goals as goal
@@ -16,31 +15,29 @@ joined e f t = rw (e, f) t
 
 pub overflow_mul-rest : goal.overflow_mul-rest
 overflow_mul-rest c =
-    record { fits = omega (arith, small c.loop-i.invariant.1 c.loop-i-test.true c.requires, c.loop-i.invariant.1.within) }
+    record { fits = omega (arith, small c.loop-i.invariant c.loop-i-test.true c.requires, c.loop-i.invariant.within) }
 
 pub overflow_add-rest : goal.overflow_add-rest
 overflow_add-rest c =
-    let t = c.loop-i.invariant.1 in
+    let t = c.loop-i.invariant in
     record { fits = omega (arith, small t c.loop-i-test.true c.requires, t.within, t.digits) }
 
 pub overflow_mul-next : goal.overflow_mul-next
-overflow_mul-next c = record { fits = omega (arith, small c.loop-i.invariant.1 c.loop-i-test.true c.requires) }
+overflow_mul-next c = record { fits = omega (arith, small c.loop-i.invariant c.loop-i-test.true c.requires) }
 
 pub overflow_add-next : goal.overflow_add-next
-overflow_add-next c = record { fits = omega (arith, small c.loop-i.invariant.1 c.loop-i-test.true c.requires) }
+overflow_add-next c = record { fits = omega (arith, small c.loop-i.invariant c.loop-i-test.true c.requires) }
 
 pub loop-i-preserved : goal.loop-i-preserved
 loop-i-preserved c =
-    let t = c.loop-i.invariant.1 in (
-      omega arith,
-      elim c.if-next-rest.branch [
-        | then-next-rest w ↦ joined w.rest-is w.r-is (turn_one _ _ _ _ _ t w.if-next-rest.true)
-        | else-next-rest w ↦ joined w.rest-is w.r-is (turn-zero _ _ _ _ _ t w.if-next-rest.false)
-      ],
-    )
+    let t = c.loop-i.invariant in
+    elim c.if-next-rest.branch [
+      | then-next-rest w ↦ joined w.rest-is w.r-is (turn_one _ _ _ _ _ t w.if-next-rest.true)
+      | else-next-rest w ↦ joined w.rest-is w.r-is (turn-zero _ _ _ _ _ t w.if-next-rest.false)
+    ]
 
 pub returns : goal.returns
 returns c =
     root_unique
-    (subst (λ (i : ℕ). IsRoot (c.args.m * 4 ^ i / 2 ^ 64) c.loop-i.r) (le_antisymm c.loop-i.invariant.0 c.loop-i-test.false) (turned-root _ _ _ _ _ c.loop-i.invariant.1))
+    (subst (λ (i : ℕ). IsRoot (c.args.m * 4 ^ i / 2 ^ 64) c.loop-i.r) (omega arith) (turned-root _ _ _ _ _ c.loop-i.invariant))
     (whole_root_is _)

@@ -3,36 +3,28 @@ use mathlib.Core.Path.{refl, sym, ap, ◌∙◌, subst}
 use native.Mathlib.Omega.{arith}
 use lib.Dec.{T}
 use lib.Ieee.{binary64, fits}
-use lib.Ieee.Compare.{differs_from_itself}
 use Rattle.roots.specs.Root.{root}
-use Rattle.roots.specs.Laws.Nan.{zero-over-zero, number}
+use Rattle.roots.specs.Laws.Nan as law
 use Rattle.roots.proofs.Fields.{root_nan, root-zero, root-minus, root_infinite}
 use Rattle.roots.proofs.Standard.{answer, square_root}
+use Rattle.roots.proofs.sqrt_f64.Goals.{then-b-eq0-via-then-b-eq0, then-b-eq0-via-else-b-eq0+then-b-eq9218868437227405312}
 use Rattle.roots.proofs.sqrt_f64.Goals as goal
 
-pub returns-then-x : goal.returns-then-x
-returns-then-x c =
+pub returns-then-is_nan : goal.returns-then-is_nan
+returns-then-is_nan c =
     let held : T (fits binary64 c.args.x) = subst T (sym c.well_formed.0.1) tt in
-    let nan = differs_from_itself c.args.x (subst T (sym c.if-x.true) tt) in
-    square_root binary64 c.args.x _ held (zero-over-zero binary64 ∙ sym (ap (root binary64) nan ∙ root_nan binary64))
-
-pub float_to_bits-b : goal.float_to_bits-b
-float_to_bits-b c = number c.args.x c.if-x.false
+    square_root binary64 c.args.x _ held (law.quiet binary64 ∙ sym (ap (root binary64) (law.is c.args.x (sym c.if-is_nan.true ∙ c.is_nan.ensures.value)) ∙ root_nan binary64))
 
 pub returns-then-b-eq0 : goal.returns-then-b-eq0
 returns-then-b-eq0 c =
     let held : T (fits binary64 c.args.x) = subst T (sym c.well_formed.0.1) tt in
-    square_root binary64 c.args.x _ held (root-zero binary64 _ held c.if-b-eq0.true)
+    square_root binary64 c.args.x _ held
+    (elim c.then-b-eq0.branch [ then-b-eq0-via-then-b-eq0 w ↦ root-zero binary64 _ held w.if-b-eq0.true | then-b-eq0-via-else-b-eq0+then-b-eq9218868437227405312 w ↦ root_infinite binary64 _ held w.if-b-eq9218868437227405312.true ])
 
 pub returns-then-b-gt9218868437227405312 : goal.returns-then-b-gt9218868437227405312
 returns-then-b-gt9218868437227405312 c =
     let held : T (fits binary64 c.args.x) = subst T (sym c.well_formed.0.1) tt in
-    square_root binary64 c.args.x _ held (zero-over-zero binary64 ∙ root-minus binary64 _ held (number c.args.x c.if-x.false) c.if-b-eq0.false c.if-b-gt9218868437227405312.true)
-
-pub returns-then-b-eq9218868437227405312 : goal.returns-then-b-eq9218868437227405312
-returns-then-b-eq9218868437227405312 c =
-    let held : T (fits binary64 c.args.x) = subst T (sym c.well_formed.0.1) tt in
-    square_root binary64 c.args.x _ held (root_infinite binary64 _ held c.if-b-eq9218868437227405312.true)
+    square_root binary64 c.args.x _ held (law.quiet binary64 ∙ root-minus binary64 _ held (law.number c.args.x (sym c.if-is_nan.false ∙ c.is_nan.ensures.value)) c.if-b-eq0.false c.if-b-gt9218868437227405312.true)
 
 pub float_from_bits-result : goal.float_from_bits-result
 float_from_bits-result c =
