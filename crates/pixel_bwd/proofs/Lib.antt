@@ -1,3 +1,2 @@
 -- laws that the proofs share
 pub mod Laws
-pub mod Pixel

@@ -6,7 +6,7 @@ use Rattle.geometry.specs.Arith.{floats}
 use Rattle.geometry.specs.Vector.{Vec3, Weights, Triangle}
 use Rattle.rays.specs.Space.{Ray}
 use Rattle.meshes.specs.Mesh.{Face}
-use Rattle.meshes.specs.Sums.{Addition, addition}
+use Rattle.meshes.specs.Sums.{Addition, addition, summed}
 use Rattle.lists.specs.Lists.{span}
 use Rattle.vertex_values.specs.Pass.{Vertices}
 use Rattle.pixel_gradients.specs.Gradients.{gradients_at}
@@ -43,3 +43,7 @@ pub record Sums : Type 0 where
 
 abbrev pub sums : List Float → List Float → Sums
 sums xyz val = record { xyz = xyz; val = val }
+
+-- and after a pixel
+abbrev pub pixel_sums : Vertices → Option Face → Option (Ray Float) → (ℕ → Float) → Sums → Sums
+pixel_sums s o r d old = sums (summed old.xyz (pixel_xyz s o r d)) (summed old.val (pixel_val s o r d))

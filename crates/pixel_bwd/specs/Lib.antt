@@ -1,2 +1,3 @@
 -- 01, "Values and their backward pass": what one pixel adds in `interpolate_bwd`.
 pub mod Additions
+pub mod Answer

@@ -1,111 +1,96 @@
 // The backward pass of values at one pixel: what it adds. No function here is a public call.
 #![tactic(auto)]
 
-ghost use Rattle.std.specs.Prelude.{◌≡◌, true, [], ◌∷◌, ◌+◌, ◌*◌, ◌/◌, ◌≤◌, ◌<◌, length};
-ghost use Rattle.questions.specs.Questions.{names_face};
-ghost use Rattle.rays.specs.Answer as ofRays;
-ghost use Rattle.rays.specs.Pixel.{ray_at};
-ghost use Rattle.meshes.specs.Sound.{SoundMesh};
-ghost use Rattle.meshes.specs.Sums.{addition, summed};
-ghost use Rattle.meshes.specs.View.{named};
-ghost use Rattle.pixel_rays.specs.Answer.{face_of};
-ghost use Rattle.vertex_values.specs.Pass.{vertices};
+ghost use Rattle.std.specs.Prelude.{◌≡◌, ◌+◌, ◌*◌, ◌/◌, ◌≤◌, ◌<◌, length};
+ghost use Rattle.geometry.specs.Answer.{corners_of, weights_of};
+ghost use Rattle.rays.specs.Pixel.{row_at};
+ghost use Rattle.meshes.specs.Mesh.{Among};
+ghost use Rattle.meshes.specs.Sums.{summed};
+ghost use Rattle.meshes.specs.Answer.{face_of};
+ghost use Rattle.pixel_rays.specs.Rays.{ray_of};
+ghost use Rattle.pixel_rays.specs.Answer.{image_of, shown, number};
+ghost use Rattle.vertex_values.specs.Answer.{vertices_of};
 ghost use Rattle.pixel_gradients.specs.Gradients.{incoming_at};
-ghost use Rattle.pixel_bwd.specs.Additions.{to_xyz, to_val, pixel_xyz, pixel_val, sums};
+ghost use Rattle.pixel_bwd.specs.Additions.{to_corners, to_xyz, to_val, pixel_sums};
 
-use pixel_rays::face::Face;
-use rays::{Corners, PixelRay, Weights};
+use geometry::{Triangle, Vec3, Weights};
+use meshes::Face;
+use pixels::Pixel;
+use vertex_values::Pass;
 
-// One addition for each corner.
-fn add_three(sums: &mut [f32], a0: usize, a1: usize, a2: usize, x0: f32, x1: f32, x2: f32)
-    requires a0_in_bounds { a0 < length sums.old }
-    requires a1_in_bounds { a1 < length sums.old }
-    requires a2_in_bounds { a2 < length sums.old }
-    ensures { sums.new ≡ summed sums.old (addition a0 x0 ∷ addition a1 x1 ∷ addition a2 x2 ∷ []) }
+// What `interpolate_bwd` is lent, once its questions are answered yes: a pass, the gradients of its pixels' values, and the accumulators of those of its
+// vertices' coordinates and values.
+#[derive(Drop)]
+pub struct Backward<'a> {
+    pub pass: &'a Pass<'a>,
+    pub dldw: &'a [f32],
+    pub dxyz: &'a mut [f32],
+    pub dval: &'a mut [f32],
+    pub ghost incoming: { length dldw.now ≡ pass.now.view.size.w * pass.now.view.size.h * pass.now.num_vdim },
+    pub ghost xyz: { length dxyz.now ≡ length pass.now.view.mesh.vtx2xyz.now },
+    pub ghost val: { length dval.now ≡ length pass.now.vtx2val.now },
+}
+
+// One addition for each corner of a face, at number j of its n.
+#[tactic(auto, using(crate::proofs::Laws::place_there), unfolding(meshes::specs::Sums::summed))]
+fn add_three(sums: &mut [f32], n: usize, f: Face, j: usize, x0: f32, x1: f32, x2: f32)
+    requires among { Among (length sums.old / n) (face_of f) }
+    requires number { j < n }
+    ensures { sums.new ≡ summed sums.old (to_corners n (face_of f) j x0 x1 x2) }
 {
-    meshes::add_at(sums, a0, x0);
-    meshes::add_at(sums, a1, x1);
-    meshes::add_at(sums, a2, x2);
+    meshes::add_at(sums, f.v0 * n + j, x0);
+    meshes::add_at(sums, f.v1 * n + j, x1);
+    meshes::add_at(sums, f.v2 * n + j, x2);
 }
 
 // Each corner's share, axis by axis.
-fn add_shares(dxyz: &mut [f32], f: Face, to: Corners)
-    requires v0_in_bounds { 3 * f.v0 + 2 < length dxyz.old }
-    requires v1_in_bounds { 3 * f.v1 + 2 < length dxyz.old }
-    requires v2_in_bounds { 3 * f.v2 + 2 < length dxyz.old }
-    ensures { dxyz.new ≡ summed dxyz.old (to_xyz (face_of f) (ofRays.corners_of to)) }
+fn add_shares(dxyz: &mut [f32], f: Face, to: Triangle<Vec3>)
+    requires { Among (length dxyz.old / 3) (face_of f) }
+    ensures { dxyz.new ≡ summed dxyz.old (to_xyz (face_of f) (corners_of to)) }
 {
-    let a0 = f.v0 * 3;
-    let a1 = f.v1 * 3;
-    let a2 = f.v2 * 3;
-    let p0 = to.p0;
-    let p1 = to.p1;
-    let p2 = to.p2;
-    add_three(dxyz, a0, a1, a2, p0.x, p1.x, p2.x);
-    add_three(dxyz, a0 + 1, a1 + 1, a2 + 1, p0.y, p1.y, p2.y);
-    add_three(dxyz, a0 + 2, a1 + 2, a2 + 2, p0.z, p1.z, p2.z);
+    let Triangle { p0, p1, p2 } = to;
+    add_three(dxyz, 3, f, 0, p0.x, p1.x, p2.x);
+    add_three(dxyz, 3, f, 1, p0.y, p1.y, p2.y);
+    add_three(dxyz, 3, f, 2, p0.z, p1.z, p2.z);
 }
 
-// The incoming gradients by the corners' weights, channel by channel.
-fn add_values(dval: &mut [f32], f: Face, b: Weights, dldw: &[f32], at: usize, c: usize)
-    requires c_in_bounds { f.v0 * c + c ≤ length dval.old }
-    requires c_in_bounds_2 { f.v1 * c + c ≤ length dval.old }
-    requires c_in_bounds_3 { f.v2 * c + c ≤ length dval.old }
-    requires c_in_bounds_4 { at + c ≤ length dldw.now }
-    ensures { dval.new ≡ summed dval.old (to_val c (face_of f) (incoming_at dldw.now at) (ofRays.weights_of b)) }
+// The incoming gradients by the corners' weights, channel by channel of c; they begin at `at`.
+#[tactic(auto, using(meshes::specs::Laws::turns_none, meshes::specs::Laws::turns_more, meshes::specs::Laws::turns_ended), unfolding(crate::specs::Additions::to_val))]
+fn add_values(dval: &mut [f32], c: usize, f: Face, bc: Weights, dldw: &[f32], at: usize)
+    requires among { Among (length dval.old / c) (face_of f) }
+    requires run { at + c ≤ length dldw.now }
+    ensures { dval.new ≡ summed dval.old (to_val c (face_of f) (incoming_at dldw.now at) (weights_of bc)) }
 {
-    let a0 = f.v0 * c;
-    let a1 = f.v1 * c;
-    let a2 = f.v2 * c;
-    let b0 = b.b0;
-    let b1 = b.b1;
-    let b2 = b.b2;
-    let mut j = 0;
-    while j < c {
+    for j in 0..c {
         let d = dldw[at + j];
-        add_three(dval, a0 + j, a1 + j, a2 + j, d * b0, d * b1, d * b2);
-        j += 1;
+        add_three(dval, c, f, j, d * bc.b0, d * bc.b1, d * bc.b2);
     }
 }
 
-// What one pixel adds: its map entry, (x, y) of its ray, and where its channels begin.
-pub fn add_pixel(
-    dxyz: &mut [f32],
-    dval: &mut [f32],
-    entry: u32,
-    x: f32,
-    y: f32,
-    tri2vtx: &[u32],
-    vtx2xyz: &[f32],
-    c: usize,
-    vtx2val: &[f32],
-    m: &[f32; 16],
-    dldw: &[f32],
-    at: usize,
-)
-    requires sound_mesh { SoundMesh tri2vtx.now vtx2xyz.now }
-    requires vtx2val_len { length vtx2val.now ≡ length vtx2xyz.now / 3 * c }
-    requires value { names_face (length tri2vtx.now / 3) entry ≡ true }
-    requires dxyz_len { length dxyz.old ≡ length vtx2xyz.now }
-    requires dval_len { length dval.old ≡ length vtx2val.now }
-    requires c_in_bounds { at + c ≤ length dldw.now }
-    ensures { sums dxyz.new dval.new
-        ≡ sums (summed dxyz.old (pixel_xyz (vertices vtx2xyz.now c vtx2val.now) (named tri2vtx.now entry)
-        (ray_at m.now x y) (incoming_at dldw.now at)))
-        (summed dval.old (pixel_val (vertices vtx2xyz.now c vtx2val.now) (named tri2vtx.now entry)
-        (ray_at m.now x y) (incoming_at dldw.now at))) }
-{
-    if entry == questions::EMPTY {
-        return;
+impl Backward<'_> {
+    ghost use Rattle.pixel_bwd.specs.Answer.{held, SameSums};
+
+    // What one pixel adds, whose row is at y.
+    #[tactic(auto, unfolding(crate::specs::Additions::pixel_xyz, crate::specs::Additions::pixel_val, meshes::specs::Sums::summed))]
+    pub fn add_pixel(&mut self, p: Pixel, y: f32)
+        requires in_row { p.x < self.old.pass.now.view.size.w }
+        requires in_column { p.y < self.old.pass.now.view.size.h }
+        requires row { y ≡ row_at self.old.pass.now.view.size.h p.y }
+        ensures same { SameSums self.old self.new }
+        ensures added { let n = number self.old.pass.now.view p in
+            held self.new ≡ pixel_sums (vertices_of self.old.pass.now) ((shown self.old.pass.now.view).at n) (ray_of (image_of self.old.pass.now.view) n)
+            (incoming_at self.old.dldw.now (n * self.old.pass.now.num_vdim)) (held self.old) }
+    {
+        let pass = self.pass;
+        let Some(f) = pixel_rays::face(&pass.view, p) else {
+            return;
+        };
+        let Some(r) = pixel_rays::ray(&pass.view, p, y) else {
+            return;
+        };
+        let at = pass.view.size.number(p) * pass.num_vdim;
+        let g = pixel_gradients::gradients_at(pass, f, r, self.dldw, at);
+        add_shares(self.dxyz, f, g.to);
+        add_values(self.dval, pass.num_vdim, f, g.bc, self.dldw, at);
     }
-    let found = rays::ray_at(m, x, y);
-    let PixelRay::Along(r) = found else {
-        return;
-    };
-    let f = pixel_rays::face::face_at(tri2vtx, entry as usize);
-    let g = pixel_gradients::gradients_at(vtx2xyz, c, vtx2val, f, r, dldw, at);
-    let to = g.to;
-    let bc = g.bc;
-    add_shares(dxyz, f, to);
-    add_values(dval, f, bc, dldw, at, c);
 }

@@ -1,7 +1,7 @@
-use Rattle.geometry.specs.Vector.{vec3, triangle}
-use Rattle.meshes.specs.Mesh.{face}
-use Rattle.pixel_bwd.proofs.Laws.{axes}
+use Rattle.pixel_bwd.specs.Additions.{to_xyz}
+use Rattle.pixel_bwd.proofs.Laws.{summed_three}
 use Rattle.pixel_bwd.proofs.add_shares.Goals as goal
 
 pub returns : goal.returns
-returns c = axes (face _ _ _) (triangle (vec3 _ _ _) (vec3 _ _ _) (vec3 _ _ _)) _ _ _ _ c.add_three.ensures c.add_three-2.ensures c.add_three-3.ensures
+unfolding to_xyz
+returns c = rw summed_three (rw (← c.add_three.ensures, ← c.add_three-2.ensures) c.add_three-3.ensures)
