@@ -1,26 +1,26 @@
 -- From what the steps of `interpolate` promise to its outcome.
-use Prim.Native.Nat.{ℕ, ◌+◌, ◌*◌, ◌<◌, ◌≤◌}
-use mathlib.Core.Path.{◌≡◌, sym, ◌∙◌, ap, ap₂}
-use mathlib.Core.List.{List, ◌++◌}
-use native.Mathlib.Nat.{zero-add, mul_comm, add-mul, mul-le-mul_right}
-use native.Mathlib.Omega.{arith}
-use lib.Ieee.{Float, nan}
-use lib.ListN.{length, get_or, take, drop}
+use Rattle.std.specs.Prelude.{ℕ, ◌+◌, ◌*◌, ◌<◌, ◌≤◌, ◌≡◌, refl, List, ◌++◌, Float, length, get_or, take, drop, Err}
+use Rattle.std.specs.Float.{nan}
+use Rattle.std.proofs.Common.{sym, ◌∙◌, ap, ap₂, zero-add, mul_comm, add-mul, mul-le-mul_right, arith}
+use Rattle.questions.specs.declared.Refusal.{Refusal}
+use Rattle.questions.specs.Answer.{code_of}
 use Rattle.questions.specs.Questions.{outcome}
-use Rattle.questions.specs.Laws.{call_refused, call_done}
+use Rattle.questions.specs.Laws.{call_done}
+use Rattle.questions.proofs.Laws.Refusals.{refused}
 use Rattle.pixels.specs.Laws.{row-at, column-at}
-use Rattle.rays.specs.Pixel.{ray_at, column_at, row_at}
-use Rattle.meshes.specs.View.{View, named, view_of}
+use Rattle.meshes.specs.View.{View, view_of}
 use Rattle.lists.specs.Lists.{tabulate}
 use Rattle.lists.specs.Laws.Tables.{tabulate_same}
 use Rattle.lists.specs.Laws.Every.{row_below}
-use Rattle.pixel_rays.specs.Rays.{Image, image, ray_of}
-use Rattle.pixel_rays.specs.Laws.{pixel-seen}
+use Rattle.pixel_rays.specs.Rays.{Image, ray_of}
+use Rattle.pixel_rays.specs.Answer.{image_of, shown}
 use Rattle.vertex_values.specs.Pass.{Vertices}
+use Rattle.vertex_values.specs.declared.Pass.{Pass}
+use Rattle.vertex_values.specs.Answer.{vertices_of, Lent}
 use Rattle.pixel_values.specs.Pixel.{value_at}
 use Rattle.values.specs.Interpolate.{value_in, interpolated, interpolate_code, interpolating}
 use Rattle.values.specs.Filled.{filled}
-use Rattle.values.specs.Laws.{filled_lent, filled_more, filled_all, length-filled}
+use Rattle.values.specs.Laws.{filled_lent, filled_more, filled_all}
 
 -- place p * channels + j is channel j of pixel p
 value_of_pixel : (g : Image) (s : Vertices) (v : View) (p j : ℕ) (old : Float) → j < s.channels
@@ -28,41 +28,33 @@ value_of_pixel : (g : Image) (s : Vertices) (v : View) (p j : ℕ) (old : Float)
 unfolding value_in
 value_of_pixel g s v p j old l = rw (row-at s.channels p j l, column-at s.channels p j l)
 
--- one more pixel of a row: its run, lent and written
-module _ (w h : ℕ) (m : List Float) (s : Vertices) (tri map : List ℕ) (iy ix : ℕ) (inside : ix < w) (below : iy * w + ix < length map)
-    (x y : Float) (ex : x ≡ column_at w ix) (ey : y ≡ row_at h iy) (cur new : List Float) (k : ℕ) (ek : k ≡ s.channels)
-    (e : new ≡ tabulate (λ j. value_at s (named tri (get_or map (iy * w + ix) 0)) (ray_at m x y) j (get_or (take k (drop ((iy * w + ix) * s.channels) cur)) j nan)) 0 s.channels) where
-  value : ℕ → Float → Float
-  value = value_in (image w h m) s (view_of tri map)
+-- pixel n's run, of k places, lent and written
+module _ (g : Image) (s : Vertices) (v : View) (iy ix n k : ℕ) (en : n ≡ iy * g.w + ix) (ek : k ≡ s.channels) (cur new : List Float)
+    (e : new ≡ tabulate (λ j. value_at s (v.at (iy * g.w + ix)) (ray_of g (iy * g.w + ix)) j (get_or (take k (drop (n * s.channels) cur)) j nan)) 0 s.channels) where
+  written : List Float
+  written = take (n * s.channels) cur ++ (new ++ drop k (drop (n * s.channels) cur))
 
-  run-filled : take ((iy * w + ix) * s.channels) cur ++ (new ++ drop k (drop ((iy * w + ix) * s.channels) cur)) ≡ filled value ((iy * w + ix) * s.channels) s.channels cur
-  unfolding value
-  run-filled =
+  run_filled : written ≡ filled (value_in g s v) (n * s.channels) s.channels cur
+  unfolding written
+  run_filled =
       rw ek
-      (filled_lent value ((iy * w + ix) * s.channels) s.channels cur new
-      (e
-      ∙ rw ek
-      (tabulate_same _ _ 0 0 s.channels
-      (λ j l.
-      pixel-seen w h m tri map iy ix (λ o r. value_at s o r (0 + j) (get_or (take s.channels (drop ((iy * w + ix) * s.channels) cur)) (0 + j) nan)) inside below ex ey
-      ∙ sym (value_of_pixel (image w h m) s (view_of tri map) (iy * w + ix) (0 + j) _ (omega arith))))))
+      (filled_lent (value_in g s v) (n * s.channels) s.channels cur new
+      (e ∙ rw (ek, ← en) (tabulate_same _ _ 0 0 s.channels (λ j l. sym (value_of_pixel g s v n (0 + j) _ (omega arith))))))
 
-  pub row_more : (old : List Float) → (iy * w + ix) * s.channels + s.channels ≤ length old
-      → cur ≡ filled (value_in (image w h m) s (view_of tri map)) (iy * w * s.channels) (ix * s.channels) old
-      → (length (take ((iy * w + ix) * s.channels) cur ++ (new ++ drop k (drop ((iy * w + ix) * s.channels) cur))) ≡ length old)
-      × (take ((iy * w + ix) * s.channels) cur ++ (new ++ drop k (drop ((iy * w + ix) * s.channels) cur))
-      ≡ filled (value_in (image w h m) s (view_of tri map)) (iy * w * s.channels) ((ix + 1) * s.channels) old)
-  unfolding value
+  -- one more pixel of row iy
+  pub row_more : (old : List Float) → n * s.channels + s.channels ≤ length old
+      → cur ≡ filled (value_in g s v) (iy * g.w * s.channels) (ix * s.channels) old
+      → take (n * s.channels) cur ++ (new ++ drop k (drop (n * s.channels) cur)) ≡ filled (value_in g s v) (iy * g.w * s.channels) ((ix + 1) * s.channels) old
+  unfolding written
   row_more old fits so_far =
-      let at : (iy * w + ix) * s.channels ≡ iy * w * s.channels + ix * s.channels = add-mul (iy * w) ix s.channels in
+      let value = value_in g s v in
+      let a = iy * g.w * s.channels in
+      let at : n * s.channels ≡ a + ix * s.channels = ap (λ (i : ℕ). i * s.channels) en ∙ add-mul (iy * g.w) ix s.channels in
       let next : ix * s.channels + s.channels ≡ (ix + 1) * s.channels = omega arith in
-      let turn =
-      run-filled
-      ∙ ap₂ (λ (a : ℕ) (t : List Float). filled value a s.channels t) at so_far
-      ∙ filled_more value (iy * w * s.channels) (ix * s.channels) old (omega arith) s.channels
-      ∙ ap (λ (n : ℕ). filled value (iy * w * s.channels) n old) next
-      in
-      (ap length turn ∙ length-filled value (iy * w * s.channels) ((ix + 1) * s.channels) old (omega arith), turn)
+      run_filled
+      ∙ ap₂ (λ (i : ℕ) (t : List Float). filled value i s.channels t) at so_far
+      ∙ filled_more value a (ix * s.channels) old (omega arith) s.channels
+      ∙ ap (λ (m : ℕ). filled value a m old) next
 
 -- one more row
 module _ (value : ℕ → Float → Float) (w h c iy : ℕ) (old cur : List Float) (whole : length old ≡ w * h * c) where
@@ -84,12 +76,16 @@ module _ (value : ℕ → Float → Float) (w h c iy : ℕ) (old cur : List Floa
       ∙ ap (λ (n : ℕ). filled value 0 n old) (ap (λ (i : ℕ). i * w * c) e ∙ ap (λ (n : ℕ). n * c) (mul_comm h w))
       ∙ filled_all value (w * h * c) old whole
 
-module _ (g : Image) (s : Vertices) (tri map : List ℕ) (old : List Float) (code : ℕ) where
-  pub refused : code ≡ interpolate_code g s tri map old → (code ≡ 0 → ⊥) → outcome code old ≡ interpolating g s tri map old
+module _ (g : Image) (s : Vertices) (tri map : List ℕ) (old : List Float) where
+  pub not_done : (r : Refusal) → code_of (Err r) ≡ interpolate_code g s tri map old → outcome (code_of (Err r)) old ≡ interpolating g s tri map old
   unfolding interpolating
-  refused e no0 = call_refused _ e no0
+  not_done r e = refused r _ e
 
-  pub done : (new : List Float) → code ≡ interpolate_code g s tri map old → code ≡ 0 → new ≡ interpolated g s (view_of tri map) old
-      → outcome 0 new ≡ interpolating g s tri map old
+  pub done : {p : Pass} {n : ℕ} (new : List Float) → 0 ≡ interpolate_code g s tri map old → Lent p g s (view_of tri map) n
+      → new ≡ interpolated (image_of p.view) (vertices_of p) (shown p.view) old → outcome 0 new ≡ interpolating g s tri map old
   unfolding interpolating
-  done new e zero0 made = call_done old e zero0 made
+  done {p} new e l made =
+      call_done old e refl
+      (made
+      ∙ ap (λ (i : Image). interpolated i (vertices_of p) (shown p.view) old) l.of_image
+      ∙ ap₂ (λ (t : Vertices) (v : View). interpolated g t v old) l.of_vertices l.of_view)

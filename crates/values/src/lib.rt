@@ -3,9 +3,13 @@
 
 ghost use Rattle.std.specs.Prelude.{◌≡◌};
 ghost use Rattle.questions.specs.Questions.{outcome};
+ghost use Rattle.questions.specs.Answer.{code_of};
 ghost use Rattle.pixel_rays.specs.Rays.{image};
 ghost use Rattle.vertex_values.specs.Pass.{vertices};
 ghost use Rattle.values.specs.Interpolate.{interpolating};
+
+use questions::Refusal;
+use vertex_values::Pass;
 
 mod fill;
 
@@ -20,12 +24,12 @@ pub fn interpolate(
     vtx2val: &[f32],
     transform_ndc2world: &[f32; 16],
     pix2val: &mut [f32],
-) -> u32
-    ensures { outcome result pix2val.new
+) -> Result<(), Refusal>
+    ensures { outcome (code_of result) pix2val.new
         ≡ interpolating (image img_w img_h transform_ndc2world.now) (vertices vtx2xyz.now num_vdim vtx2val.now)
         tri2vtx.now pix2tri.now pix2val.old }
 {
-    let code = vertex_values::pass_code(
+    let pass = Pass::ask(
         img_w,
         img_h,
         pix2tri,
@@ -36,20 +40,7 @@ pub fn interpolate(
         transform_ndc2world,
         pix2val.len(),
         true,
-    );
-    if code != 0 {
-        return code;
-    }
-    fill::image_values(
-        pix2val,
-        img_w,
-        img_h,
-        pix2tri,
-        tri2vtx,
-        vtx2xyz,
-        num_vdim,
-        vtx2val,
-        transform_ndc2world,
-    );
-    0
+    )?;
+    fill::image_values(pix2val, &pass);
+    Ok(())
 }

@@ -1,16 +1,9 @@
-use Prim.Native.Nat.{◌*◌, ◌-◌, ◌≤◌}
-use mathlib.Core.Path.{◌≡◌}
-use lib.ListN.{length}
-use Rattle.meshes.specs.View.{view_of}
-use Rattle.pixel_rays.specs.Rays.{image}
-use Rattle.vertex_values.specs.Pass.{vertices}
+use Rattle.std.proofs.Common.{◌≡◌, ◌*◌}
+use Rattle.pixel_rays.specs.Answer.{image_of, shown}
+use Rattle.vertex_values.specs.Answer.{vertices_of}
 use Rattle.values.specs.Interpolate.{value_in}
 use Rattle.values.specs.Filled.{filled}
 use Rattle.values.proofs.fill.row_values.Given as goal
 
 abbrev pub invariant-loop-ix : goal.invariant-loop-ix
-invariant-loop-ix l = (l.ix ≤ l.w) × (length l.pix2val ≡ length l.initial.pix2val)
-    × (l.pix2val ≡ filled (value_in (image l.w l.h l.m) (vertices l.vtx2xyz l.c l.vtx2val) (view_of l.tri2vtx l.pix2tri)) (l.iy * l.w * l.c) (l.ix * l.c) l.initial.pix2val)
-
-abbrev pub decreases-loop-ix : goal.decreases-loop-ix
-decreases-loop-ix l = l.w - l.ix
+invariant-loop-ix l = l.pix2val ≡ filled (value_in (image_of l.pass.view) (vertices_of l.pass) (shown l.pass.view)) (l.iy * l.pass.view.size.w * l.pass.num_vdim) (l.ix * l.pass.num_vdim) l.initial.pix2val
