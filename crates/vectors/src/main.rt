@@ -24,11 +24,17 @@ fn answer(tool: u32, high: u32, low: u32) -> u64 {
 
 // Runs the next vector, and answers whether there was one.
 fn run_one<R: Read, W: Write>(input: &mut R, output: &mut W) -> io::Result<bool> {
-    let Some([tool, high, low]) = words::read(input)? else {
+    let Some(vector) = words::read(input)? else {
         return Ok(false);
     };
+    let [tool, high, low]: [u32; 3] = vector;
     let bits = answer(tool, high, low);
-    writeln!(output, "{tool:08x} {high:08x} {low:08x} {:08x} {:08x}", bits / WORDS, bits % WORDS)?;
+    writeln!(
+        output,
+        "{tool:08x} {high:08x} {low:08x} {:08x} {:08x}",
+        bits / WORDS,
+        bits % WORDS
+    )?;
     Ok(true)
 }
 
