@@ -1,5 +1,5 @@
 -- From what the steps of `edge_gradient_and_type` promise to the call's whole outcome.
-use Rattle.std.specs.Prelude.{ℕ, ◌≡◌, refl, Bool, true, false, cond, Ok, Err, List}
+use Rattle.std.specs.Prelude.{ℕ, ◌≡◌, refl, Ok, Err, List}
 use Rattle.std.proofs.Common.{ap₂}
 use Rattle.questions.specs.declared.Refusal.{Refusal}
 use Rattle.questions.specs.Answer.{code_of}
@@ -11,11 +11,6 @@ use Rattle.pairs.specs.Pairs.{EdgeView}
 use Rattle.pairs.specs.Gradient.{PixelValues}
 use Rattle.edge_types.specs.Axis.{AxisBuffers, edges_of}
 use Rattle.edges.specs.Calls.{EdgeBuffers, edge_buffers, edge_code, edge_typing}
-
--- a question that is passed was answered yes
-pub yes : (a : Bool) (r : Refusal) {u : Unit {0}} → Ok u ≡ cond a (Ok tt) (Err r) → a ≡ true
-yes true r e = refl
-yes false r e = cc
 
 module _ (tri map : List ℕ) (h : ℕ) (s : EdgeView) (v : PixelValues) (b : EdgeBuffers) where
   pub edge_refused : (r : Refusal) → code_of (Err r) ≡ edge_code tri map h s v b → outcome (code_of (Err r)) b ≡ edge_typing tri map h s v b

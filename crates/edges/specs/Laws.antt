@@ -1,5 +1,6 @@
 -- Laws of the call's questions.
 use Rattle.std.specs.Prelude.{ℕ, ◌/◌, ◌≡◌, true, List, length}
+use Rattle.std.proofs.Common.{sym}
 use Rattle.lists.specs.Laws.Tests.{both}
 use Rattle.questions.specs.Questions.{exact}
 use Rattle.questions.specs.Laws.{exactly, accepted}
@@ -17,12 +18,12 @@ axis-exact : (a : Axis) (w h : ℕ) (b : AxisBuffers) → exact_axis a w h b ≡
 axis-exact a w h b e =
     let p = both (exact (edge_count a w h) (length b.types)) _ e in record { types = exactly _ _ p.0; dldrs = exactly _ _ p.1 }
 
-pub edge_accepted : (tri map : List ℕ) (h : ℕ) (s : EdgeView) (v : PixelValues) (b : EdgeBuffers) → edge_code tri map h s v b ≡ 0
+pub edge_accepted : (tri map : List ℕ) (h : ℕ) (s : EdgeView) (v : PixelValues) (b : EdgeBuffers) → 0 ≡ edge_code tri map h s v b
     → Ready tri map s.vertices s.width h v b
 unfolding edge_code
 edge_accepted tri map h s v b e =
     let w = s.width in
-    let o = opened w h v.channels (length tri) (length s.vertices) _ e in
+    let o = opened w h v.channels (length tri) (length s.vertices) _ (sym e) in
     let four = accepted 3 (exact_all w h map v b) _ o.1 in
     let lengths = both (exact_pixels w h map v) _ four.0 in
     let pixels = pixels_exact w h map v o.0.few lengths.0 in

@@ -27,7 +27,7 @@ fn axis_ok(size: ImageSize, axis: Axis, types: &[u8], dldr: &[f32]) -> bool
 }
 
 // Questions 1 to 8.
-#[tactic(auto, unfolding(questions::specs::Questions::first_no, crate::specs::Calls::edge_code))]
+#[tactic(auto, using(pairs::proofs::Asked::asked), unfolding(questions::specs::Questions::first_no, crate::specs::Calls::edge_code))]
 fn ask_edges<'a>(
     tri2vtx: &'a [u32],
     vtx2xyz: &'a [f32],
@@ -68,6 +68,7 @@ fn ask_edges<'a>(
 }
 
 // The type and the gradient `dldr` of every pair of neighbouring pixels.
+#[tactic(auto, using(crate::specs::Laws::edge_accepted, crate::proofs::Calls::edge_refused, crate::proofs::Calls::edge_done))]
 pub fn edge_gradient_and_type<'a>(
     tri2vtx: &'a [u32],
     vtx2xyz: &'a [f32],

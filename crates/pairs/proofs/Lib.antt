@@ -1,0 +1,2 @@
+-- proved of the definitions in specs/, for the proofs of the crates above
+pub mod Asked
