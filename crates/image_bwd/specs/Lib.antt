@@ -1,2 +1,3 @@
 -- 01, "Values and their backward pass": the pixels in rising number.
 pub mod Summed
+pub mod Answer

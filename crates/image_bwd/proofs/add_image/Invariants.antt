@@ -1,16 +1,7 @@
-use Prim.Native.Nat.{◌*◌, ◌-◌, ◌≤◌}
-use mathlib.Core.Path.{◌≡◌}
-use lib.ListN.{length}
-use Rattle.meshes.specs.View.{view_of}
-use Rattle.pixel_rays.specs.Rays.{image}
-use Rattle.vertex_values.specs.Pass.{vertices}
-use Rattle.pixel_bwd.specs.Additions.{sums}
-use Rattle.image_bwd.specs.Summed.{summed_over}
+use Rattle.std.proofs.Common.{◌≡◌, ◌*◌}
+use Rattle.pixel_bwd.specs.Answer.{held, SameSums}
+use Rattle.image_bwd.specs.Answer.{with_pixels}
 use Rattle.image_bwd.proofs.add_image.Given as goal
 
 abbrev pub invariant-loop-iy : goal.invariant-loop-iy
-invariant-loop-iy l = (l.iy ≤ l.h) × (length l.dxyz ≡ length l.initial.dxyz) × (length l.dval ≡ length l.initial.dval)
-    × (sums l.dxyz l.dval ≡ summed_over (image l.w l.h l.m) (vertices l.vtx2xyz l.c l.vtx2val) (view_of l.tri2vtx l.pix2tri) l.dldw 0 (l.iy * l.w) (sums l.initial.dxyz l.initial.dval))
-
-abbrev pub decreases-loop-iy : goal.decreases-loop-iy
-decreases-loop-iy l = l.h - l.iy
+invariant-loop-iy l = let a = l.initial.sums in SameSums a l.sums × (held l.sums ≡ with_pixels a 0 (l.iy * a.pass.now.view.size.w) (held a))
