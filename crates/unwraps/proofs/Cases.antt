@@ -2,29 +2,34 @@
 use Prim.Native.Nat.{ℕ}
 use mathlib.Core.Path.{◌≡◌, refl, sym, ◌∙◌, ap, ap₂}
 use mathlib.Core.Bool.{Bool, true, false, ◌&&◌, ◌||◌, and-true, cond}
-use mathlib.Core.Option.{some}
+use mathlib.Core.Option.{none, some}
 use mathlib.Core.List.{List, [], ◌∷◌}
 use lib.Ieee.{Float}
 use Rattle.geometry.specs.Vector.{Vec2, Vec3, Projected, Triangle}
 use Rattle.meshes.specs.Mesh.{Face}
-use Rattle.inside.specs.Inside.{all_inside, contains, present}
+use Rattle.lists.specs.Lists.{span, every}
+use Rattle.pixels.specs.Edge.{Axis, rows}
+use Rattle.inside.specs.Inside.{all_inside, contains, present, weights_in}
+use Rattle.pairs.specs.Pairs.{EdgeView}
+use Rattle.pairs.specs.Steps.{row_passes}
+use Rattle.pairs.specs.Laws.{by_rows}
 use Rattle.meshes.specs.Mesh.{project_face}
 use Rattle.tris.specs.Weights.{world_in}
 use Rattle.tris.specs.Tri.{unormal, TriOf}
-use Rattle.tris.specs.Laws.{world_is}
+use Rattle.tris.specs.Laws.{inside_is, world_is}
 use Rattle.crossings.specs.Crossing.{along, skipped, coefficient0, coefficient1, g_pix}
-use Rattle.share_rules.specs.Shares.{Share, share, crossing}
+use Rattle.share_rules.specs.Shares.{Share, share, crossing, between}
+use Rattle.share_rules.specs.Laws.{both_empty, after_empty, before_empty, both_contain, second-contains, first-contains, neither_contains}
 use Rattle.share_rules.specs.Steps.{beside_empty}
-use Rattle.unwraps.specs.Unwraps.{weighable, weighable_all}
+use Rattle.unwraps.specs.Unwraps.{weighable, weighable_all, unwraps, all_unwraps}
 use Rattle.unwraps.specs.Steps.{crossing_answered}
 
-pub or-true : (a : Bool) {b : Bool} → b ≡ true → true ≡ a || b
-or-true true e = refl
-or-true false e = sym e
-
-pub or-false : (a : Bool) {b : Bool} → b ≡ false → a ≡ a || b
-or-false true e = refl
-or-false false e = sym e
+-- the code's order of the two answers, and the definition's
+pub either : (a b : Bool) → a || b ≡ b || a
+either true true = refl
+either true false = refl
+either false true = refl
+either false false = refl
 
 module _ {m xyz : List Float} {f : Face} {x : Triangle (Vec3 Float)} {t : Triangle (Projected Float)} (o : TriOf m xyz f x t) (q : Vec2 Float) (g : Float → Vec3 Float) where
   weighs : present (world_in q (some t)) ≡ weighable m xyz (share f q g)
@@ -55,3 +60,40 @@ beside_weighs axis m xyz f own other = go (contains all_inside m xyz (some f) ot
     go : (b : Bool) → b || present (world_in own (project_face m xyz f)) ≡ weighable_all m xyz (cond b [] (share f own (along axis) ∷ []))
     go true = refl
     go false = sym (and-true (present (world_in own (project_face m xyz f))))
+
+-- ---- what a pair shows whose entries are not equal
+
+module _ (axis : ℕ) (m xyz : List Float) (q0 q1 : Vec2 Float) where
+  pub nothing_weighs : weighable_all m xyz (between axis m xyz none none q0 q1) ≡ true
+  unfolding weighable_all
+  nothing_weighs = rw (both_empty axis m xyz q0 q1)
+
+  pub after_weighs : (f : Face) → weighable_all m xyz (between axis m xyz none (some f) q0 q1) ≡ contains all_inside m xyz (some f) q0 || present (world_in q1 (project_face m xyz f))
+  after_weighs f = rw (after_empty axis m xyz f q0 q1) (sym (beside_weighs axis m xyz f q1 q0))
+
+  pub before_weighs : (f : Face) → weighable_all m xyz (between axis m xyz (some f) none q0 q1) ≡ contains all_inside m xyz (some f) q1 || present (world_in q0 (project_face m xyz f))
+  before_weighs f = rw (before_empty axis m xyz f q0 q1) (sym (beside_weighs axis m xyz f q0 q1))
+
+module _ {m xyz : List Float} {f0 f1 : Face} {x0 x1 : Triangle (Vec3 Float)} {t0 t1 : Triangle (Projected Float)} (o0 : TriOf m xyz f0 x0 t0) (o1 : TriOf m xyz f1 x1 t1) (axis : ℕ)
+    (q0 q1 : Vec2 Float) where
+  abbrev pub Weighed : Bool → Type 0
+  Weighed b = b ≡ weighable_all m xyz (between axis m xyz (some f0) (some f1) q0 q1)
+
+  pub both_inside : all_inside (weights_in q0 (some t1)) ≡ true → all_inside (weights_in q1 (some t0)) ≡ true → Weighed (crossing_answered axis t0 t1 q0 q1)
+  both_inside p q = rw (both_contain axis m xyz f0 f1 q0 q1 o0 o1 (inside_is o1 q0 ∙ p) (inside_is o0 q1 ∙ q)) (crossing_weighs o0 o1 axis q0 q1)
+
+  pub first_inside : all_inside (weights_in q0 (some t1)) ≡ true → all_inside (weights_in q1 (some t0)) ≡ false → Weighed (present (world_in q0 (some t0)))
+  first_inside p q = rw (second-contains axis m xyz f0 f1 q0 q1 (inside_is o1 q0 ∙ p) (inside_is o0 q1 ∙ q)) (one_weighs o0 q0 (along axis))
+
+  pub second_inside : all_inside (weights_in q0 (some t1)) ≡ false → all_inside (weights_in q1 (some t0)) ≡ true → Weighed (present (world_in q1 (some t1)))
+  second_inside p q = rw (first-contains axis m xyz f0 f1 q0 q1 (inside_is o1 q0 ∙ p) (inside_is o0 q1 ∙ q)) (one_weighs o1 q1 (along axis))
+
+  pub none_inside : all_inside (weights_in q0 (some t1)) ≡ false → all_inside (weights_in q1 (some t0)) ≡ false → Weighed true
+  unfolding weighable_all
+  none_inside p q = rw (neither_contains axis m xyz f0 f1 q0 q1 (inside_is o1 q0 ∙ p) (inside_is o0 q1 ∙ q))
+
+-- ---- every pair of an axis, row by row
+
+pub unwraps_by_rows : (a : Axis) (h : ℕ) (s : EdgeView) → all_unwraps a h s ≡ every (row_passes (unwraps a s) a s.width) (span 0 (rows a h))
+unfolding all_unwraps
+unwraps_by_rows a h s = by_rows (unwraps a s) a s.width (rows a h)

@@ -1,217 +1,159 @@
 // Question 9: has `barycentric_world` an answer for each share of a pair, of an axis, of both? No function here is a public call.
 #![tactic(auto)]
 
-ghost use Rattle.std.specs.Prelude.{◌≡◌, true, ◌&&◌, ◌||◌, ◌≤◌};
+ghost use Rattle.std.specs.Prelude.{◌≡◌, true, ◌+◌, ◌&&◌, ◌||◌, ◌<◌, IfSome};
 ghost use Rattle.std.proofs.Math.Option.{some};
 ghost use Rattle.geometry.specs.Answer.{point2};
-ghost use Rattle.meshes.specs.Mesh.{face_at};
-ghost use Rattle.meshes.specs.View.{named, view_of};
-ghost use Rattle.meshes.specs.Sound.{SoundMesh, SoundMap};
-ghost use Rattle.pixels.specs.Edge.{axis, edge_from};
-ghost use Rattle.inside.specs.Inside.{all_inside, contains, present};
 ghost use Rattle.meshes.specs.Mesh.{project_face};
-ghost use Rattle.pairs.specs.Pairs.{edge_view, answered, all_answered, both_answered};
-ghost use Rattle.pairs.specs.Steps.{Within};
+ghost use Rattle.meshes.specs.Answer.{face_of, maybe_face};
+ghost use Rattle.inside.specs.Inside.{all_inside, contains, present};
+ghost use Rattle.pairs.specs.Pairs.{both_answered};
+ghost use Rattle.pairs.specs.Steps.{Within, row_passes};
+ghost use Rattle.pairs.specs.Answer.{axis_of, edge_of, seen_of};
 ghost use Rattle.tris.specs.Weights.{world_in};
 ghost use Rattle.tris.specs.Answer.{projected_in};
-ghost use Rattle.tris.specs.Tri.{Projects, Shows};
+ghost use Rattle.tris.specs.Tri.{Projects};
 ghost use Rattle.share_rules.specs.Shares.{between};
 ghost use Rattle.unwraps.specs.Unwraps.{weighable_all, unwraps, all_unwraps, both_unwrap};
 ghost use Rattle.unwraps.specs.Steps.{crossing_answered};
 
 use geometry::Vec2;
+use meshes::{Face, View};
+use pixels::{Axis, Pixel};
+use share_rules::{AxisPairs, Side};
 use tris::Tri;
 
 // Have both faces their weights?
-fn both_weigh(t0: Tri, t1: Tri, q0: Vec2, q1: Vec2) -> bool
-    ensures { result ≡ (present (world_in (point2 q0) (some (projected_in t0))) && present (world_in (point2 q1) (some (projected_in t1)))) }
+fn both_weigh(t0: &Tri, t1: &Tri, q0: Vec2, q1: Vec2) -> bool
+    ensures { result ≡ (present (world_in (point2 q0) (some (projected_in t0.now))) && present (world_in (point2 q1) (some (projected_in t1.now)))) }
 {
-    if !tris::has_world(t0, q0) {
-        return false;
-    }
-    tris::has_world(t1, q1)
+    t0.has_world(q0) && t1.has_world(q1)
 }
 
 // Question 9 of an intersection. The weights come first: where both are there, the normals need no root.
-fn crossing_ok(t0: Tri, t1: Tri, q0: Vec2, q1: Vec2, axis: usize) -> bool
-    ensures { result ≡ crossing_answered axis (projected_in t0) (projected_in t1) (point2 q0) (point2 q1) }
+#[tactic(auto, using(crate::proofs::Cases::either), unfolding(crate::specs::Steps::crossing_answered))]
+fn crossing_ok(axis: Axis, t0: &Tri, t1: &Tri, q0: Vec2, q1: Vec2) -> bool
+    ensures { result ≡ crossing_answered axis.down (projected_in t0.now) (projected_in t1.now) (point2 q0) (point2 q1) }
 {
-    if both_weigh(t0, t1, q0, q1) {
-        return true;
-    }
-    crossings::skipped(axis, tris::unormal_pix(t0), tris::unormal_pix(t1))
+    both_weigh(t0, t1, q0, q1) || crossings::skipped(axis, t0.unormal_pix(), t1.unormal_pix())
 }
 
-// Question 9 of face number i beside an empty pixel.
-fn beside_empty_ok(
-    tri2vtx: &[u32],
-    vtx2xyz: &[f32],
-    m: &[f32; 16],
-    i: usize,
-    own: Vec2,
-    other: Vec2,
-) -> bool
-    requires sound_mesh { SoundMesh tri2vtx.now vtx2xyz.now }
-    requires projects { Projects tri2vtx.now m.now vtx2xyz.now i }
-    ensures { result ≡ (contains all_inside m.now vtx2xyz.now (some (face_at tri2vtx.now i)) (point2 other)
-        || present (world_in (point2 own) (project_face m.now vtx2xyz.now (face_at tri2vtx.now i)))) }
+// Question 9 of a face beside an empty pixel, whose centre is `other`.
+fn beside_empty_ok(pairs: &AxisPairs, own: Side, other: Vec2) -> bool
+    requires { Projects pairs.now.view.m.now pairs.now.view.mesh.vtx2xyz.now (face_of own.face) }
+    ensures { result ≡ (contains all_inside pairs.now.view.m.now pairs.now.view.mesh.vtx2xyz.now (some (face_of own.face)) (point2 other)
+        || present (world_in (point2 own.centre) (project_face pairs.now.view.m.now pairs.now.view.mesh.vtx2xyz.now (face_of own.face)))) }
 {
-    let t = tris::tri_new(tri2vtx, vtx2xyz, m, i);
-    if tris::is_inside(t, other) {
-        return true;
-    }
-    tris::has_world(t, own)
+    let t = Tri::new(&pairs.view.mesh, pairs.view.m, own.face);
+    t.is_inside(other) || t.has_world(own.centre)
 }
 
 // Question 9 of two faces.
-fn between_ok(
-    tri2vtx: &[u32],
-    vtx2xyz: &[f32],
-    m: &[f32; 16],
-    i0: usize,
-    i1: usize,
+fn between_ok(pairs: &AxisPairs, first: Side, second: Side) -> bool
+    requires first { Projects pairs.now.view.m.now pairs.now.view.mesh.vtx2xyz.now (face_of first.face) }
+    requires second { Projects pairs.now.view.m.now pairs.now.view.mesh.vtx2xyz.now (face_of second.face) }
+    ensures { result ≡ weighable_all pairs.now.view.m.now pairs.now.view.mesh.vtx2xyz.now
+        (between pairs.now.axis.down pairs.now.view.m.now pairs.now.view.mesh.vtx2xyz.now (some (face_of first.face)) (some (face_of second.face))
+        (point2 first.centre) (point2 second.centre)) }
+{
+    let t0 = Tri::new(&pairs.view.mesh, pairs.view.m, first.face);
+    let t1 = Tri::new(&pairs.view.mesh, pairs.view.m, second.face);
+    match (t1.is_inside(first.centre), t0.is_inside(second.centre)) {
+        (true, true) => crossing_ok(pairs.axis, &t0, &t1, first.centre, second.centre),
+        (true, false) => t0.has_world(first.centre),
+        (false, true) => t1.has_world(second.centre),
+        (false, false) => true,
+    }
+}
+
+// Question 9 of what two pixels show whose entries are not equal, and of their centres.
+#[tactic(auto, using(crate::proofs::Cases::nothing_weighs, crate::proofs::Cases::after_weighs, crate::proofs::Cases::before_weighs))]
+fn unequal_ok(
+    pairs: &AxisPairs,
+    first: Option<Face>,
+    second: Option<Face>,
     q0: Vec2,
     q1: Vec2,
-    axis: usize,
 ) -> bool
-    requires sound_mesh { SoundMesh tri2vtx.now vtx2xyz.now }
-    requires projects { Projects tri2vtx.now m.now vtx2xyz.now i0 }
-    requires projects_2 { Projects tri2vtx.now m.now vtx2xyz.now i1 }
-    ensures { result ≡ weighable_all m.now vtx2xyz.now
-        (between axis m.now vtx2xyz.now (some (face_at tri2vtx.now i0)) (some (face_at tri2vtx.now i1)) (point2 q0) (point2 q1)) }
+    requires first { IfSome first (λ f. Projects pairs.now.view.m.now pairs.now.view.mesh.vtx2xyz.now (face_of f)) }
+    requires second { IfSome second (λ f. Projects pairs.now.view.m.now pairs.now.view.mesh.vtx2xyz.now (face_of f)) }
+    ensures { result ≡ weighable_all pairs.now.view.m.now pairs.now.view.mesh.vtx2xyz.now
+        (between pairs.now.axis.down pairs.now.view.m.now pairs.now.view.mesh.vtx2xyz.now (maybe_face first) (maybe_face second) (point2 q0) (point2 q1)) }
 {
-    let t0 = tris::tri_new(tri2vtx, vtx2xyz, m, i0);
-    let t1 = tris::tri_new(tri2vtx, vtx2xyz, m, i1);
-    if tris::is_inside(t1, q0) {
-        if tris::is_inside(t0, q1) {
-            return crossing_ok(t0, t1, q0, q1, axis);
+    match (first, second) {
+        (Some(f0), Some(f1)) => {
+            let first = Side {
+                face: f0,
+                centre: q0,
+            };
+            let second = Side {
+                face: f1,
+                centre: q1,
+            };
+            between_ok(pairs, first, second)
         }
-        return tris::has_world(t0, q0);
+        (Some(face), None) => beside_empty_ok(pairs, Side { face, centre: q0 }, q1),
+        (None, Some(face)) => beside_empty_ok(pairs, Side { face, centre: q1 }, q0),
+        (None, None) => true,
     }
-    if tris::is_inside(t0, q1) {
-        return tris::has_world(t1, q1);
+}
+
+// Question 9 of the pair whose first pixel is p.
+fn pair_ok(pairs: &AxisPairs, p: Pixel) -> bool
+    requires { Within pairs.now.view.size.w pairs.now.view.size.h pairs.now.axis.right pairs.now.axis.down p.x p.y }
+    ensures { result ≡ unwraps (axis_of pairs.now.axis) (seen_of pairs.now.view) (edge_of pairs.now.axis p) }
+{
+    let pair = pairs::pair_at(&pairs.view, p, pairs.axis);
+    if pair.first == pair.second {
+        return true;
+    }
+    let first = pairs.view.mesh.named(pair.first);
+    let second = pairs.view.mesh.named(pair.second);
+    let q0 = pixels::centre_of(p);
+    let q1 = pixels::centre_of(pairs::neighbour(p, pairs.axis));
+    unequal_ok(pairs, first, second, q0, q1)
+}
+
+// Question 9 of the pairs whose first pixels lie in row y.
+#[tactic(auto, using(lists::specs::Laws::Every::every_none, lists::specs::Laws::Every::every_next), unfolding(pairs::specs::Steps::row_passes))]
+fn row_ok(pairs: &AxisPairs, y: usize) -> bool
+    requires { y + pairs.now.axis.down < pairs.now.view.size.h }
+    ensures { result ≡ row_passes (unwraps (axis_of pairs.now.axis) (seen_of pairs.now.view)) (axis_of pairs.now.axis) pairs.now.view.size.w y }
+{
+    for x in 0..pairs.view.size.w - pairs.axis.right {
+        if !pair_ok(pairs, Pixel { x, y }) {
+            return false;
+        }
     }
     true
 }
 
-// Question 9 of two entries that are not equal.
-pub fn unequal_ok(
-    tri2vtx: &[u32],
-    vtx2xyz: &[f32],
-    m: &[f32; 16],
-    first: u32,
-    second: u32,
-    q0: Vec2,
-    q1: Vec2,
-    axis: usize,
-) -> bool
-    requires sound_mesh { SoundMesh tri2vtx.now vtx2xyz.now }
-    requires shows { Shows tri2vtx.now m.now vtx2xyz.now first }
-    requires shows_2 { Shows tri2vtx.now m.now vtx2xyz.now second }
-    ensures { result ≡ weighable_all m.now vtx2xyz.now
-        (between axis m.now vtx2xyz.now (named tri2vtx.now first) (named tri2vtx.now second) (point2 q0) (point2 q1)) }
+// Question 9 of an axis, row by row.
+#[tactic(auto, using(lists::specs::Laws::Every::every_none, lists::specs::Laws::Every::every_next))]
+fn all_ok(pairs: &AxisPairs) -> bool
+    ensures { result ≡ all_unwraps (axis_of pairs.now.axis) pairs.now.view.size.h (seen_of pairs.now.view) }
 {
-    if first == questions::EMPTY {
-        if second == questions::EMPTY {
-            return true;
-        }
-        return beside_empty_ok(tri2vtx, vtx2xyz, m, second as usize, q1, q0);
-    }
-    if second == questions::EMPTY {
-        return beside_empty_ok(tri2vtx, vtx2xyz, m, first as usize, q0, q1);
-    }
-    between_ok(
-        tri2vtx,
-        vtx2xyz,
-        m,
-        first as usize,
-        second as usize,
-        q0,
-        q1,
-        axis,
-    )
-}
-
-// Question 9 of the pair whose first pixel is (x, y). `down` is the Rust's axis, too.
-fn pair_ok(
-    tri2vtx: &[u32],
-    vtx2xyz: &[f32],
-    m: &[f32; 16],
-    img_w: usize,
-    img_h: usize,
-    pix2tri: &[u32],
-    x: usize,
-    y: usize,
-    right: usize,
-    down: usize,
-) -> bool
-    requires sound_map { SoundMap «tri2vtx».now «vtx2xyz».now «pix2tri».now img_w img_h }
-    requires within { Within img_w img_h right down x y }
-    requires y_value { answered (edge_view (view_of «tri2vtx».now «pix2tri».now) m.now «vtx2xyz».now img_w) (edge_from (axis right down) x y) ≡ true }
-    ensures { result ≡ unwraps (axis right down) (edge_view (view_of «tri2vtx».now «pix2tri».now) m.now «vtx2xyz».now img_w)
-        (edge_from (axis right down) x y) }
-{
-    let pair = pairs::pair_at(img_w, img_h, pix2tri, x, y, right, down);
-    if pair.first == pair.second {
-        return true;
-    }
-    let q0 = pixels::centre_of(x, y);
-    let q1 = pixels::centre_of(x + right, y + down);
-    unequal_ok(tri2vtx, vtx2xyz, m, pair.first, pair.second, q0, q1, down)
-}
-
-// Question 9 of an axis, pair by pair, row by row.
-fn all_ok(
-    tri2vtx: &[u32],
-    vtx2xyz: &[f32],
-    m: &[f32; 16],
-    img_w: usize,
-    img_h: usize,
-    pix2tri: &[u32],
-    right: usize,
-    down: usize,
-) -> bool
-    requires sound_map { SoundMap «tri2vtx».now «vtx2xyz».now «pix2tri».now img_w img_h }
-    requires right_bound { (right ≤ 1) × (down ≤ 1) }
-    requires img_w_value { all_answered (axis right down) img_h (edge_view (view_of «tri2vtx».now «pix2tri».now) m.now «vtx2xyz».now img_w) ≡ true }
-    ensures { result ≡ all_unwraps (axis right down) img_h
-        (edge_view (view_of «tri2vtx».now «pix2tri».now) m.now «vtx2xyz».now img_w) }
-{
-    let columns = img_w - right;
-    let n = (img_h - down) * columns;
-    let mut x = 0;
-    let mut y = 0;
-    let mut i = 0;
-    while i < n {
-        if !pair_ok(
-            tri2vtx, vtx2xyz, m, img_w, img_h, pix2tri, x, y, right, down,
-        ) {
+    for y in 0..pairs.view.size.h - pairs.axis.down {
+        if !row_ok(pairs, y) {
             return false;
         }
-        let next = pixels::next(x, y, columns);
-        x = next.x;
-        y = next.y;
-        i += 1;
     }
     true
 }
 
 // Question 9 of both axes, once question 8 is answered yes.
-pub fn both_ok(
-    tri2vtx: &[u32],
-    vtx2xyz: &[f32],
-    m: &[f32; 16],
-    img_w: usize,
-    img_h: usize,
-    pix2tri: &[u32],
-) -> bool
-    requires sound_map { SoundMap «tri2vtx».now «vtx2xyz».now «pix2tri».now img_w img_h }
-    requires img_w_value { both_answered img_h (edge_view (view_of «tri2vtx».now «pix2tri».now) m.now «vtx2xyz».now img_w) ≡ true }
-    ensures { result ≡ both_unwrap img_h
-        (edge_view (view_of «tri2vtx».now «pix2tri».now) m.now «vtx2xyz».now img_w) }
+#[tactic(auto, using(lists::specs::Laws::Tests::both))]
+pub fn both_ok(view: &View) -> bool
+    requires { both_answered view.now.size.h (seen_of view.now) ≡ true }
+    ensures { result ≡ both_unwrap view.now.size.h (seen_of view.now) }
 {
-    if !all_ok(tri2vtx, vtx2xyz, m, img_w, img_h, pix2tri, 0, 1) {
-        return false;
-    }
-    all_ok(tri2vtx, vtx2xyz, m, img_w, img_h, pix2tri, 1, 0)
+    let hedges = AxisPairs {
+        view: *view,
+        axis: Axis::HEDGE,
+    };
+    let vedges = AxisPairs {
+        view: *view,
+        axis: Axis::VEDGE,
+    };
+    all_ok(&hedges) && all_ok(&vedges)
 }
