@@ -1,11 +1,11 @@
 -- Where each pixel has its weights, or is like all its neighbours, every pair of both axes is answered yes.
-use Prim.Native.Nat.{ℕ, ◌+◌, ◌-◌, ◌/◌, ◌%◌, ◌<◌}
+use Prim.Native.Nat.{ℕ, ◌+◌, ◌<◌}
 use mathlib.Core.Path.{◌≡◌, refl, ◌∙◌, ap}
 use mathlib.Core.Logic.{⊎_elim}
 use mathlib.Core.Bool.{Bool, true, false, cond}
 use mathlib.Core.Option.{Option, none, some}
 use mathlib.Core.List.{List, [], ◌∷◌}
-use native.Mathlib.Nat.{div-add-mod', mod-lt, zero-add}
+use native.Mathlib.Nat.{zero-add}
 use native.Mathlib.Omega.{arith}
 use lib.Ieee.{Float}
 use Rattle.lists.specs.Lists.{span, every}
@@ -17,14 +17,13 @@ use Rattle.meshes.specs.Mesh.{Face}
 use Rattle.meshes.specs.View.{view_of}
 use Rattle.meshes.specs.Sound.{SoundMap}
 use Rattle.pixels.specs.Pixel.{centre_of}
-use Rattle.pixels.specs.Edge.{Axis, axis, hedge, vedge, Edge, edge_from, edge_at, edge_count}
-use Rattle.pixels.specs.Laws.{Walked}
+use Rattle.pixels.specs.Edge.{Axis, axis, hedge, vedge, Edge, edge_from, per_row, rows}
 use Rattle.inside.specs.Inside.{all_inside, contains}
 use Rattle.meshes.specs.Mesh.{project_face}
 use Rattle.inside.specs.Steps.{all_project}
 use Rattle.pairs.specs.Pairs.{EdgeView, edge_view, first_of, second_of, equal_entries, both_answered}
-use Rattle.pairs.specs.Steps.{Within}
-use Rattle.pairs.specs.Laws.{within-at, all_projected}
+use Rattle.pairs.specs.Steps.{Within, row_passes}
+use Rattle.pairs.specs.Laws.{by_rows, all_projected}
 use Rattle.tris.specs.Tri.{unormal}
 use Rattle.crossings.specs.Crossing.{skipped, coefficient0, coefficient1, g_pix}
 use Rattle.share_rules.specs.Shares.{Share, share, alone, crossing, crossing_of, intersection, received, between, shares_at}
@@ -98,9 +97,6 @@ every_below t n h =
     every_of t 0 (span 0 n)
     (λ i l. let l' : i < n = rw (length-tabulate (λ k. k) 0 n) at l in ap t (get_or-tabulate (λ k. k) 0 n i 0 l' ∙ zero-add i) ∙ h i l')
 
-walked : (n i : ℕ) → Walked n i (i % n) (i / n)
-walked n i = record { number = div-add-mod' i n; column = λ p. mod-lt i p }
-
 module _ (tri map : List ℕ) (m xyz : List Float) (w h : ℕ) (passed : (x y : ℕ) → x < w → y < h → WeighsOrInner tri map m xyz w h x y) where
   pair_unwraps : (right down x y : ℕ) → Within w h right down x y → (LikeAllNeighbours map w h x y → LikeNext map w h x y right down)
       → (LikeAllNeighbours map w h (x + right) (y + down) → LikePrevious map w (x + right) (y + down) right down)
@@ -115,13 +111,16 @@ module _ (tri map : List ℕ) (m xyz : List Float) (w h : ℕ) (passed : (x y : 
 
   axis-unwraps : (right down : ℕ) → ((x y : ℕ) → LikeAllNeighbours map w h x y → LikeNext map w h x y right down)
       → ((x y : ℕ) → LikeAllNeighbours map w h x y → LikePrevious map w x y right down) → all_unwraps (axis right down) h (edge_view (view_of tri map) m xyz w) ≡ true
-  unfolding all_unwraps edge_at
+  unfolding all_unwraps row_passes
   axis-unwraps right down next previous =
-      every_below _ (edge_count (axis right down) w h)
-      (λ i l.
-      let x = i % (w - right) in
-      let y = i / (w - right) in
-      pair_unwraps right down x y (within-at w h right down (walked (w - right) i) l) (next x y) (previous (x + right) (y + down)))
+      let a = axis right down in
+      let seen = edge_view (view_of tri map) m xyz w in
+      by_rows (unwraps a seen) a w (rows a h)
+      ∙ every_below _ (rows a h)
+      (λ y k.
+      every_below _ (per_row a w)
+      (λ x l.
+      pair_unwraps right down x y (record { column = omega arith; row = omega arith }) (next x y) (previous (x + right) (y + down))))
 
   pub all_unwrap : SoundMap tri xyz map w h → all_project m xyz ≡ true
       → (both_answered h (edge_view (view_of tri map) m xyz w) ≡ true) × (both_unwrap h (edge_view (view_of tri map) m xyz w) ≡ true)

@@ -3,209 +3,128 @@
 // No function here is a public call.
 #![tactic(auto)]
 
-ghost use Rattle.std.specs.Prelude.{◌≡◌, true, ℕ, ◌*◌, ◌≤◌, ◌<◌, length};
-ghost use Rattle.questions.specs.Laws.{Sized};
+ghost use Rattle.std.specs.Prelude.{◌≡◌, true, ℕ, ◌<◌, IfSome};
 ghost use Rattle.geometry.specs.Answer.{point2};
-ghost use Rattle.meshes.specs.View.{named, view_of};
-ghost use Rattle.meshes.specs.Sound.{SoundMesh, SoundMap};
-ghost use Rattle.pixels.specs.Edge.{axis, edge_from};
+ghost use Rattle.meshes.specs.Answer.{face_of, maybe_face};
 ghost use Rattle.inside.specs.Steps.{all_project};
-ghost use Rattle.pairs.specs.Pairs.{edge_view, both_answered};
+ghost use Rattle.pairs.specs.Pairs.{both_answered};
 ghost use Rattle.pairs.specs.Steps.{Within};
-ghost use Rattle.tris.specs.Tri.{Shows};
+ghost use Rattle.pairs.specs.Answer.{edge_of, seen_of};
+ghost use Rattle.tris.specs.Tri.{Projects};
 ghost use Rattle.unwraps.specs.Unwraps.{both_unwrap};
 ghost use Rattle.pixel_unwraps.specs.Steps.{equal_at, LikeNext, LikePrevious, LikeAllNeighbours, weighs_of, WeighsOrInner};
 
 use geometry::Vec2;
+use meshes::{Face, View};
+use pixels::{Axis, Pixel};
+use tris::Tri;
 
-// Are the entries of the pair whose first pixel is (x, y) equal?
-fn equal_pair(
-    img_w: usize,
-    img_h: usize,
-    pix2tri: &[u32],
-    x: usize,
-    y: usize,
-    right: usize,
-    down: usize,
-) -> bool
-    requires sized { Sized 1 img_w img_h }
-    requires pix2tri_len { length «pix2tri».now ≡ img_w * img_h }
-    requires within { Within img_w img_h right down x y }
-    ensures { result ≡ equal_at «pix2tri».now img_w (edge_from (axis right down) x y) }
+// Are the entries of the pair whose first pixel is p equal?
+fn equal_pair(view: &View, p: Pixel, axis: Axis) -> bool
+    requires { Within view.now.size.w view.now.size.h axis.right axis.down p.x p.y }
+    ensures { result ≡ equal_at view.now.pix2tri.now view.now.size.w (edge_of axis p) }
 {
-    let pair = pairs::pair_at(img_w, img_h, pix2tri, x, y, right, down);
+    let pair = pairs::pair_at(view, p, axis);
     pair.first == pair.second
 }
 
-// Is the pixel (x, y) like the next one, where there is one?
-fn like_next(
-    img_w: usize,
-    img_h: usize,
-    pix2tri: &[u32],
-    x: usize,
-    y: usize,
-    right: usize,
-    down: usize,
-) -> bool
-    requires sized { Sized 1 img_w img_h }
-    requires pix2tri_len { length «pix2tri».now ≡ img_w * img_h }
-    requires x_lt_img_w { (x < img_w) × (y < img_h) × (right ≤ 1) × (down ≤ 1) }
-    ensures { result ≡ true → LikeNext «pix2tri».now img_w img_h x y right down }
+// Is the pixel p like the next one, where there is one?
+fn like_next(view: &View, p: Pixel, axis: Axis) -> bool
+    requires in_row { p.x < view.now.size.w }
+    requires in_column { p.y < view.now.size.h }
+    ensures { result ≡ true → LikeNext view.now.pix2tri.now view.now.size.w view.now.size.h p.x p.y axis.right axis.down }
 {
-    if img_w <= x + right {
-        return true;
-    }
-    if img_h <= y + down {
-        return true;
-    }
-    equal_pair(img_w, img_h, pix2tri, x, y, right, down)
+    view.size.w <= p.x + axis.right || view.size.h <= p.y + axis.down || equal_pair(view, p, axis)
 }
 
 // Is it like the one before?
-fn like_previous(
-    img_w: usize,
-    img_h: usize,
-    pix2tri: &[u32],
-    x: usize,
-    y: usize,
-    right: usize,
-    down: usize,
-) -> bool
-    requires sized { Sized 1 img_w img_h }
-    requires pix2tri_len { length «pix2tri».now ≡ img_w * img_h }
-    requires x_lt_img_w { (x < img_w) × (y < img_h) }
-    ensures { result ≡ true → LikePrevious «pix2tri».now img_w x y right down }
+fn like_previous(view: &View, p: Pixel, axis: Axis) -> bool
+    requires in_row { p.x < view.now.size.w }
+    requires in_column { p.y < view.now.size.h }
+    ensures { result ≡ true → LikePrevious view.now.pix2tri.now view.now.size.w p.x p.y axis.right axis.down }
 {
-    if x < right {
+    if p.x < axis.right || p.y < axis.down {
         return true;
     }
-    if y < down {
-        return true;
-    }
-    equal_pair(img_w, img_h, pix2tri, x - right, y - down, right, down)
+    let before = Pixel {
+        x: p.x - axis.right,
+        y: p.y - axis.down,
+    };
+    equal_pair(view, before, axis)
 }
 
 // Is it like all its neighbours?
-fn like_all_neighbours(img_w: usize, img_h: usize, pix2tri: &[u32], x: usize, y: usize) -> bool
-    requires sized { Sized 1 img_w img_h }
-    requires pix2tri_len { length «pix2tri».now ≡ img_w * img_h }
-    requires x_lt_img_w { (x < img_w) × (y < img_h) }
-    ensures { result ≡ true → LikeAllNeighbours «pix2tri».now img_w img_h x y }
+fn like_all_neighbours(view: &View, p: Pixel) -> bool
+    requires in_row { p.x < view.now.size.w }
+    requires in_column { p.y < view.now.size.h }
+    ensures { result ≡ true → LikeAllNeighbours view.now.pix2tri.now view.now.size.w view.now.size.h p.x p.y }
 {
-    if !like_next(img_w, img_h, pix2tri, x, y, 1, 0) {
-        return false;
-    }
-    if !like_next(img_w, img_h, pix2tri, x, y, 0, 1) {
-        return false;
-    }
-    if !like_previous(img_w, img_h, pix2tri, x, y, 1, 0) {
-        return false;
-    }
-    like_previous(img_w, img_h, pix2tri, x, y, 0, 1)
+    like_next(view, p, Axis::VEDGE)
+        && like_next(view, p, Axis::HEDGE)
+        && like_previous(view, p, Axis::VEDGE)
+        && like_previous(view, p, Axis::HEDGE)
 }
 
-// Has what a map's entry names its weights at q? An empty entry needs none.
-fn entry_weighs(tri2vtx: &[u32], vtx2xyz: &[f32], m: &[f32; 16], entry: u32, q: Vec2) -> bool
-    requires sound_mesh { SoundMesh tri2vtx.now vtx2xyz.now }
-    requires shows { Shows tri2vtx.now m.now vtx2xyz.now entry }
-    ensures { result ≡ weighs_of m.now vtx2xyz.now (named tri2vtx.now entry) (point2 q) }
+// Has what a pixel shows its weights at q? Where it shows nothing, it needs none.
+#[tactic(auto, unfolding(crate::specs::Steps::weighs_of))]
+fn shown_weighs(view: &View, shown: Option<Face>, q: Vec2) -> bool
+    requires { IfSome shown (λ f. Projects view.now.m.now view.now.mesh.vtx2xyz.now (face_of f)) }
+    ensures { result ≡ weighs_of view.now.m.now view.now.mesh.vtx2xyz.now (maybe_face shown) (point2 q) }
 {
-    if entry == questions::EMPTY {
+    match shown {
+        Some(f) => Tri::new(&view.mesh, view.m, f).has_world(q),
+        None => true,
+    }
+}
+
+// Has the pixel p its weights, or needs it none, being like all its neighbours?
+fn weighs_or_inner(view: &View, p: Pixel) -> bool
+    requires projected { all_project view.now.m.now view.now.mesh.vtx2xyz.now ≡ true }
+    requires in_row { p.x < view.now.size.w }
+    requires in_column { p.y < view.now.size.h }
+    ensures { result ≡ true
+        → WeighsOrInner view.now.mesh.tri2vtx.now view.now.pix2tri.now view.now.m.now view.now.mesh.vtx2xyz.now view.now.size.w view.now.size.h p.x p.y }
+{
+    if like_all_neighbours(view, p) {
         return true;
     }
-    let t = tris::tri_new(tri2vtx, vtx2xyz, m, entry as usize);
-    tris::has_world(t, q)
+    let shown = view.mesh.named(view.entry(p));
+    shown_weighs(view, shown, pixels::centre_of(p))
 }
 
-// Has the pixel (x, y) its weights, or needs it none, being like all its neighbours?
-fn weighs_or_inner(
-    tri2vtx: &[u32],
-    vtx2xyz: &[f32],
-    m: &[f32; 16],
-    img_w: usize,
-    img_h: usize,
-    pix2tri: &[u32],
-    x: usize,
-    y: usize,
-) -> bool
-    requires sound_map { SoundMap «tri2vtx».now «vtx2xyz».now «pix2tri».now img_w img_h }
-    requires vtx2xyz_value { all_project m.now «vtx2xyz».now ≡ true }
-    requires x_lt_img_w { (x < img_w) × (y < img_h) }
-    ensures { result ≡ true → WeighsOrInner «tri2vtx».now «pix2tri».now m.now «vtx2xyz».now img_w img_h x y }
+// All pixels of row y.
+fn row_weighs_or_inner(view: &View, y: usize) -> bool
+    requires projected { all_project view.now.m.now view.now.mesh.vtx2xyz.now ≡ true }
+    requires in_column { y < view.now.size.h }
+    ensures { result ≡ true → (x : ℕ) → x < view.now.size.w
+        → WeighsOrInner view.now.mesh.tri2vtx.now view.now.pix2tri.now view.now.m.now view.now.mesh.vtx2xyz.now view.now.size.w view.now.size.h x y }
 {
-    if like_all_neighbours(img_w, img_h, pix2tri, x, y) {
-        return true;
-    }
-    let p = pixels::number(img_w, img_h, x, y);
-    entry_weighs(tri2vtx, vtx2xyz, m, pix2tri[p], pixels::centre_of(x, y))
-}
-
-// All pixels of a row.
-fn row_weighs_or_inner(
-    tri2vtx: &[u32],
-    vtx2xyz: &[f32],
-    m: &[f32; 16],
-    img_w: usize,
-    img_h: usize,
-    pix2tri: &[u32],
-    y: usize,
-) -> bool
-    requires sound_map { SoundMap «tri2vtx».now «vtx2xyz».now «pix2tri».now img_w img_h }
-    requires vtx2xyz_value { all_project m.now «vtx2xyz».now ≡ true }
-    requires y_lt_img_h { y < img_h }
-    ensures { result ≡ true → (x : ℕ) → x < img_w
-        → WeighsOrInner «tri2vtx».now «pix2tri».now m.now «vtx2xyz».now img_w img_h x y }
-{
-    let mut x = 0;
-    while x < img_w {
-        if !weighs_or_inner(tri2vtx, vtx2xyz, m, img_w, img_h, pix2tri, x, y) {
+    for x in 0..view.size.w {
+        if !weighs_or_inner(view, Pixel { x, y }) {
             return false;
         }
-        x += 1;
     }
     true
 }
 
 // All rows. What a row's pixels share is worked out once for the row.
-fn all_weigh_or_inner(
-    tri2vtx: &[u32],
-    vtx2xyz: &[f32],
-    m: &[f32; 16],
-    img_w: usize,
-    img_h: usize,
-    pix2tri: &[u32],
-) -> bool
-    requires sound_map { SoundMap «tri2vtx».now «vtx2xyz».now «pix2tri».now img_w img_h }
-    requires vtx2xyz_value { all_project m.now «vtx2xyz».now ≡ true }
-    ensures { result ≡ true → (y : ℕ) → y < img_h → (x : ℕ) → x < img_w
-        → WeighsOrInner «tri2vtx».now «pix2tri».now m.now «vtx2xyz».now img_w img_h x y }
+fn all_weigh_or_inner(view: &View) -> bool
+    requires { all_project view.now.m.now view.now.mesh.vtx2xyz.now ≡ true }
+    ensures { result ≡ true → (y : ℕ) → y < view.now.size.h → (x : ℕ) → x < view.now.size.w
+        → WeighsOrInner view.now.mesh.tri2vtx.now view.now.pix2tri.now view.now.m.now view.now.mesh.vtx2xyz.now view.now.size.w view.now.size.h x y }
 {
-    let mut y = 0;
-    while y < img_h {
-        if !row_weighs_or_inner(tri2vtx, vtx2xyz, m, img_w, img_h, pix2tri, y) {
+    for y in 0..view.size.h {
+        if !row_weighs_or_inner(view, y) {
             return false;
         }
-        y += 1;
     }
     true
 }
 
 // Are questions 8 and 9 quickly seen to be answered yes?
-pub fn quickly_answered(
-    tri2vtx: &[u32],
-    vtx2xyz: &[f32],
-    m: &[f32; 16],
-    img_w: usize,
-    img_h: usize,
-    pix2tri: &[u32],
-) -> bool
-    requires { SoundMap «tri2vtx».now «vtx2xyz».now «pix2tri».now img_w img_h }
+pub fn quickly_answered(view: &View) -> bool
     ensures { result ≡ true
-        → (both_answered img_h (edge_view (view_of «tri2vtx».now «pix2tri».now) m.now «vtx2xyz».now img_w) ≡ true)
-        × (both_unwrap img_h (edge_view (view_of «tri2vtx».now «pix2tri».now) m.now «vtx2xyz».now img_w) ≡ true) }
+        → (both_answered view.now.size.h (seen_of view.now) ≡ true) × (both_unwrap view.now.size.h (seen_of view.now) ≡ true) }
 {
-    if !inside::all_project(vtx2xyz, m) {
-        return false;
-    }
-    all_weigh_or_inner(tri2vtx, vtx2xyz, m, img_w, img_h, pix2tri)
+    inside::all_project(&view.mesh, view.m) && all_weigh_or_inner(view)
 }
