@@ -1,21 +1,32 @@
 // How much work a mesh is, without drawing it: the public call `drawing_load`.
 #![tactic(auto)]
 
-ghost use Rattle.std.specs.Prelude.{◌≡◌, Bool, ◌/◌, ◌≤◌, length};
+ghost use Rattle.std.specs.Prelude.{◌≡◌, ◌/◌, ◌≤◌, length};
 ghost use Rattle.lists.specs.Lists.{sum_of};
-ghost use Rattle.questions.specs.Questions.{outcome, most_count};
-ghost use Rattle.questions.specs.Laws.{Sized};
+ghost use Rattle.questions.specs.Answer.{code_of};
+ghost use Rattle.questions.specs.Questions.{most_count};
 ghost use Rattle.meshes.specs.Mesh.{faces_of};
-ghost use Rattle.meshes.specs.Sound.{SoundMesh};
 ghost use Rattle.rules.specs.declared.Facing.TheVariants.{All};
 ghost use Rattle.rules.specs.Offers.{scene};
 ghost use Rattle.rules.specs.Load as rule;
 ghost use Rattle.pieces.specs.Answer.{piece_of, pieces_of};
-ghost use Rattle.load.specs.Answer.{answered};
+ghost use Rattle.load.specs.Answer.{load_of, answered, answered_in_c};
 
-use pieces::Pieces;
+use boxes::lines::Lines;
+use meshes::Mesh;
+use pieces::{Piece, Pieces};
+use pixels::ImageSize;
+use questions::{Refusal, ask};
+use std::fmt;
 
-// The code; the pieces after clipping, and the pixels that the scan will offer them, both 0 where the call refuses.
+// The pieces after clipping, and the pixels that the scan will offer them.
+#[derive(Clone, Copy, Debug, PartialEq, Eq)]
+pub struct Load {
+    pub pieces: u64,
+    pub pixels: u64,
+}
+
+// The answer as C takes it: the code, and the load, both numbers 0 where the call refuses.
 #[repr(C)]
 #[derive(Clone, Copy)]
 pub struct DrawingLoad {
@@ -24,73 +35,79 @@ pub struct DrawingLoad {
     pub pixels: u64,
 }
 
-// The pixels that the scan of a piece offers, turned round or not: its columns times its rows. Pieces off the image leave early.
-fn piece_pixels(w: usize, h: usize, ndc: [[f32; 3]; 3]) -> u64
-    requires { Sized 1 w h }
-    ensures { (turned : Bool) → result ≡ rule.piece_pixels w h (piece_of turned ndc) }
-{
-    let columns = boxes::axis::count_centres(false, w, ndc[0][0], ndc[1][0], ndc[2][0]);
-    if columns == 0 {
-        return 0;
-    }
-    let rows = boxes::axis::count_centres(true, h, ndc[0][1], ndc[1][1], ndc[2][1]);
-    (columns * rows) as u64
-}
-
-fn pieces_pixels(w: usize, h: usize, ps: Pieces) -> u64
-    requires { Sized 1 w h }
-    ensures { result ≡ sum_of (rule.piece_pixels w h) (pieces_of ps) }
-{
-    match ps {
-        Pieces::Nothing => 0,
-        Pieces::Whole(a, b, c) => piece_pixels(w, h, pieces::whole(a, b, c)),
-        Pieces::One(l) => piece_pixels(w, h, pieces::one_piece(l)),
-        Pieces::Two(l) => {
-            let t = pieces::first_piece(l);
-            let u = pieces::second_piece(l);
-            piece_pixels(w, h, t) + piece_pixels(w, h, u)
+impl From<Result<Load, Refusal>> for DrawingLoad {
+    fn from(answer: Result<Load, Refusal>) -> DrawingLoad
+        ensures { answered_in_c result ≡ answered answer }
+    {
+        match answer {
+            Ok(load) => DrawingLoad {
+                code: 0,
+                pieces: load.pieces,
+                pixels: load.pixels,
+            },
+            Err(refusal) => DrawingLoad {
+                code: u32::from(refusal),
+                pieces: 0,
+                pixels: 0,
+            },
         }
     }
 }
 
-// All faces, one after the other.
-fn mesh_load(tri2vtx: &[u32], vtx2xyz: &[f32], w: usize, h: usize, m: &[f32; 16]) -> DrawingLoad
-    requires sized { Sized 1 w h }
-    requires sound_mesh { SoundMesh tri2vtx.now vtx2xyz.now }
-    requires tri2vtx_len_bound { length tri2vtx.now / 3 ≤ most_count }
-    ensures { answered result ≡ outcome 0 (rule.load_of (scene m.now vtx2xyz.now w h All) (faces_of tri2vtx.now)) }
+// The pixels that the scan of a piece offers: its columns times its rows. Pieces off the image leave early.
+fn piece_pixels(size: ImageSize, t: Piece) -> u64
+    ensures { result ≡ rule.piece_pixels size.w size.h (piece_of t) }
 {
-    let count = tri2vtx.len() / 3;
-    let mut i: usize = 0;
-    let mut pieces: u64 = 0;
-    let mut pixels: u64 = 0;
-    while i < count {
-        let ps = pieces::face_pieces(tri2vtx, vtx2xyz, m, i);
-        pieces += pieces::charge(ps) as u64;
-        pixels += pieces_pixels(w, h, ps);
-        i += 1;
+    let t = t.corners;
+    let columns = Lines::columns(size).count_centres(t.p0.x, t.p1.x, t.p2.x);
+    if columns == 0 {
+        return 0;
     }
-    DrawingLoad {
-        code: 0,
-        pieces,
-        pixels,
+    let rows = Lines::rows(size).count_centres(t.p0.y, t.p1.y, t.p2.y);
+    (columns * rows) as u64
+}
+
+fn pieces_pixels(size: ImageSize, ps: Pieces) -> u64
+    ensures { result ≡ sum_of (rule.piece_pixels size.w size.h) (pieces_of ps) }
+{
+    match ps {
+        Pieces::Nothing => 0,
+        Pieces::Whole(t) => piece_pixels(size, pieces::whole(t)),
+        Pieces::One(l) => piece_pixels(size, l.one_piece()),
+        Pieces::Two(l) => piece_pixels(size, l.first_piece())
+            + piece_pixels(size, l.second_piece()),
     }
 }
 
-// Questions 1, 3 and 6.
-fn load_code(tri2vtx: &[u32], vtx2xyz: &[f32], img_w: usize, img_h: usize) -> u32
-    ensures { result ≡ rule.load_code tri2vtx.now vtx2xyz.now img_w img_h }
+// All faces, one after the other.
+fn mesh_load(mesh: &Mesh, size: ImageSize, m: &[f32; 16]) -> Load
+    requires { length mesh.now.tri2vtx.now / 3 ≤ most_count }
+    ensures { load_of result ≡ rule.load_of (scene m.now mesh.now.vtx2xyz.now size.w size.h All) (faces_of mesh.now.tri2vtx.now) }
 {
-    if !questions::sizes_ok(1, img_w, img_h) {
-        return 1;
+    let mut pieces: u64 = 0;
+    let mut pixels: u64 = 0;
+    for i in 0..mesh.face_count() {
+        let ps = pieces::face_pieces(mesh, m, i);
+        pieces += u64::from(ps.charge());
+        pixels += pieces_pixels(size, ps);
     }
-    if !questions::slices_ok(tri2vtx.len(), vtx2xyz.len()) {
-        return 3;
-    }
-    if !questions::all_below(vtx2xyz.len() / 3, tri2vtx) {
-        return 6;
-    }
-    0
+    Load { pieces, pixels }
+}
+
+// Questions 1, 3 and 6.
+#[tactic(auto, unfolding(rules::specs::Load::load_code, questions::specs::Questions::first_no))]
+fn ask_load(tri2vtx: &[u32], vtx2xyz: &[f32], w: usize, h: usize) -> Result<(), Refusal>
+    ensures { code_of result ≡ rule.load_code tri2vtx.now vtx2xyz.now w h }
+{
+    ask(questions::sizes_ok(1, w, h), Refusal::Size)?;
+    ask(
+        questions::slices_ok(tri2vtx.len(), vtx2xyz.len()),
+        Refusal::Slices,
+    )?;
+    ask(
+        questions::all_below(vtx2xyz.len() / 3, tri2vtx),
+        Refusal::Vertices,
+    )
 }
 
 // The load of the faces.
@@ -100,16 +117,11 @@ pub fn drawing_load(
     img_w: usize,
     img_h: usize,
     transform_world2ndc: &[f32; 16],
-) -> DrawingLoad
+) -> Result<Load, Refusal>
     ensures { answered result ≡ rule.loading tri2vtx.now vtx2xyz.now img_w img_h transform_world2ndc.now }
 {
-    let code = load_code(tri2vtx, vtx2xyz, img_w, img_h);
-    if code != 0 {
-        return DrawingLoad {
-            code,
-            pieces: 0,
-            pixels: 0,
-        };
-    }
-    mesh_load(tri2vtx, vtx2xyz, img_w, img_h, transform_world2ndc)
+    ask_load(tri2vtx, vtx2xyz, img_w, img_h)?;
+    let mesh = Mesh { tri2vtx, vtx2xyz };
+    let size = ImageSize { w: img_w, h: img_h };
+    Ok(mesh_load(&mesh, size, transform_world2ndc))
 }

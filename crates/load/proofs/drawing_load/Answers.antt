@@ -1,17 +1,19 @@
 -- `load::drawing_load`: refused with no load, or the faces counted.
-use mathlib.Core.Path.{refl, sym, ◌∙◌}
-use Rattle.questions.specs.Laws.{call_refused, call_done}
-use Rattle.rules.specs.Load.{load, loading}
-use Rattle.load.proofs.Accepted.{load_accepted}
+use Rattle.std.proofs.Common.{rules, sym}
+use Rattle.load.proofs.Accepted.{load_accepted, load_refused, load_done}
 use Rattle.load.proofs.drawing_load.Goals as goal
 
-pub returns-then-code-ne0 : goal.returns-then-code-ne0
-unfolding loading
-returns-then-code-ne0 c = call_refused _ c.load_code-code.ensures c.if-code-ne0.true
+pub returns-in_err-ask_load : goal.returns-in_err-ask_load
+returns-in_err-ask_load c = search (rules, load_refused)
+
+pub invariant_of-mesh : goal.invariant_of-mesh
+invariant_of-mesh c = record { sound = (load_accepted _ _ _ _ (sym c.in_ok-ask_load.ensures)).1 }
+
+pub invariant_of-size : goal.invariant_of-size
+invariant_of-size c = record { sized = (load_accepted _ _ _ _ (sym c.in_ok-ask_load.ensures)).0 }
 
 pub mesh_load-requires : goal.mesh_load-requires
-mesh_load-requires c = let met = load_accepted _ _ _ _ (sym c.load_code-code.ensures ∙ c.if-code-ne0.false) in record { sized = met.0; sound_mesh = met.1.0; tri2vtx_len_bound = met.1.1 }
+mesh_load-requires c = (load_accepted _ _ _ _ (sym c.in_ok-ask_load.ensures)).2
 
 pub returns : goal.returns
-unfolding loading
-returns c = c.mesh_load.ensures ∙ call_done (load 0 0) c.load_code-code.ensures c.if-code-ne0.false refl
+returns c = load_done _ _ _ _ _ _ c.in_ok-ask_load.ensures c.mesh_load.ensures

@@ -6,11 +6,20 @@ use Rattle.load.proofs.piece_pixels.Goals as goal
 
 pub returns-then-columns-eq0 : goal.returns-then-columns-eq0
 unfolding screened on_screen
-returns-then-columns-eq0 c = λ turned. no_columns _ _ _ c.count_centres-columns.ensures c.if-columns-eq0.true
+returns-then-columns-eq0 c = no_columns _ _ _ (rw (c.columns.ensures.along, c.columns.ensures.n) at c.count_centres-columns.ensures) c.if-columns-eq0.true
 
 pub overflow_mul-result : goal.overflow_mul-result
-overflow_mul-result c = record { fits = omega (arith, product_fits _ _ c.requires c.count_centres-columns.ensures c.count_centres-rows.ensures) }
+overflow_mul-result c = record {
+  fits = omega (
+    arith,
+    product_fits _ _ c.args.size.sized
+        (rw c.columns.ensures.n at c.count_centres-columns.ensures)
+        (rw c.rows.ensures.n at c.count_centres-rows.ensures),
+  );
+}
 
 pub returns : goal.returns
 unfolding screened on_screen
-returns c = λ turned. counted _ _ _ c.count_centres-columns.ensures c.count_centres-rows.ensures
+returns c = counted _ _ _
+    (rw (c.columns.ensures.along, c.columns.ensures.n) at c.count_centres-columns.ensures)
+    (rw (c.rows.ensures.along, c.rows.ensures.n) at c.count_centres-rows.ensures)
