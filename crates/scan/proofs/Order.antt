@@ -23,27 +23,27 @@ module _ (s : Triangle (Vec3 Float)) (w h : ℕ) {b : Box} (k : Scanned s w h b)
 
   -- the rows of the box, of column ix
   abbrev box_column : ℕ → List ℕ
-  box_column ix = down w ix b.y0 (b.y1 - b.y0)
+  box_column ix = down w ix b.rows.start (b.rows.end - b.rows.start)
 
   -- of a column of the box these are held, of another none
-  column-held : (ix : ℕ) → ix < w → filter held (down w ix 0 h) ≡ cond (in_range b.x0 b.x1 ix) (box_column ix) []
+  column-held : (ix : ℕ) → ix < w → filter held (down w ix 0 h) ≡ cond (in_range b.columns.start b.columns.end ix) (box_column ix) []
   unfolding down in_box in_range
   column-held ix l =
       filter-tabulate held number 0 h
       ∙ flat_map_same (λ iy. cond (held (number iy)) (number iy ∷ []) []) (λ iy. cond (in_box b ix iy) (number iy ∷ []) []) 0 h
       (λ i j. ap (λ (t : Bool). cond t (number (0 + i) ∷ []) []) (ap₂ (scans s) (column-at w (0 + i) ix l) (row-at w (0 + i) ix l) ∙ sym (k.visits ix (0 + i) l (omega arith))))
-      ∙ go (in_range b.x0 b.x1 ix)
+      ∙ go (in_range b.columns.start b.columns.end ix)
     where
       number : ℕ → ℕ
       number iy = number_in w (pixel ix iy)
 
-      go : (t : Bool) → flat_map (λ iy. cond (t && in_range b.y0 b.y1 iy) (number iy ∷ []) []) (span 0 h) ≡ cond t (box_column ix) []
-      go true = flat_map_range (λ iy. number iy ∷ []) b.y0 b.y1 h k.rows.order k.rows.most ∙ flat_map_single number b.y0 (b.y1 - b.y0)
+      go : (t : Bool) → flat_map (λ iy. cond (t && in_range b.rows.start b.rows.end iy) (number iy ∷ []) []) (span 0 h) ≡ cond t (box_column ix) []
+      go true = flat_map_range (λ iy. number iy ∷ []) b.rows.start b.rows.end h k.rows.order k.rows.most ∙ flat_map_single number b.rows.start (b.rows.end - b.rows.start)
       go false = flat_map-nothing 0 h
 
   pub box-visits : visits w h s ≡ box_visits w b
   unfolding visits columnwise box_visits in_range
   box-visits =
       filter-flat_map held (λ ix. down w ix 0 h) (span 0 w)
-      ∙ flat_map_same (λ ix. filter held (down w ix 0 h)) (λ ix. cond (in_range b.x0 b.x1 ix) (box_column ix) []) 0 w (λ i j. column-held (0 + i) (omega arith))
-      ∙ flat_map_range box_column b.x0 b.x1 w k.columns.order k.columns.most
+      ∙ flat_map_same (λ ix. filter held (down w ix 0 h)) (λ ix. cond (in_range b.columns.start b.columns.end ix) (box_column ix) []) 0 w (λ i j. column-held (0 + i) (omega arith))
+      ∙ flat_map_range box_column b.columns.start b.columns.end w k.columns.order k.columns.most

@@ -1,48 +1,28 @@
 -- `scan::visit_blocks`: four rows more at each turn.
-use Prim.Native.Nat.{◌+◌, ◌*◌}
-use mathlib.Core.Path.{sym, ◌∙◌}
-use native.Mathlib.Omega.{arith}
-use Rattle.cells.specs.Layer.{layer}
-use Rattle.boxes.specs.Answer.{screen_of}
-use Rattle.lanes.specs.Answer.{within}
-use Rattle.blocks.specs.Rows.{depth_cells}
+use Rattle.std.proofs.Common.{arith, ap}
+use Rattle.geometry.specs.Vector.{Vec2}
+use Rattle.std.specs.Prelude.{Float}
+use Rattle.pixels.specs.Pixel.{centre_of}
+use Rattle.cells.proofs.Laws.Kept.{same_none, same_then}
 use Rattle.blocks.proofs.Centres.{on_4}
 use Rattle.blocks.proofs.Going.{going_first, going_by}
 use Rattle.scan.proofs.visit_blocks.Goals as goal
 
-pub blocks_end-end-requires : goal.blocks_end-end-requires
-blocks_end-end-requires c = record { within = c.requires.within; h_bound = c.requires.sized.h_most }
+pub loop-y-init : goal.loop-y-init
+unfolding centre_of
+loop-y-init c = (
+  same_none _,
+  going_first _ _ _ _ _ _ _ c.requires.within.order c.args.layer.now.spans,
+  ap (λ (q : Vec2 Float). q.x) c.centre_of-q.ensures,
+  ap (λ (q : Vec2 Float). q.y) c.centre_of-q.ensures,
+)
 
-pub centre-qx-requires : goal.centre-qx-requires
-centre-qx-requires c = omega (arith, c.requires.ix_lt_w, c.requires.sized.w_most)
-
-pub centre-qy-requires : goal.centre-qy-requires
-centre-qy-requires c = omega (arith, c.requires.within.order, c.requires.within.most, c.requires.sized.h_most)
-
-pub loop-iy-init : goal.loop-iy-init
-loop-iy-init c = let a = c.args in
-    (going_first (depth_cells (within a.side) (screen_of a.s) a.number a.w) a.w (a.w * a.h) a.ix a.y0 a.y1 (layer a.pix2tri.now a.pix2depth.now a.pix2weights.now) c.requires.within.order c.requires.spans, c.centre-qy.ensures)
-
-pub visit_four-requires : goal.visit_four-requires
-visit_four-requires c = let here = c.blocks_end-end.ensures c.loop-iy.iy (omega arith) in record { sized = c.requires.sized; spans = c.loop-iy.invariant.0.spans; iy_bound = (here.1, here.0); y1_le_h = (c.requires.within.most, c.requires.ix_lt_w); qx_value = (c.centre-qx.ensures, c.loop-iy.invariant.1) }
-
-pub overflow_add-iy : goal.overflow_add-iy
-overflow_add-iy c = let here = c.blocks_end-end.ensures c.loop-iy.iy (omega (arith, c.loop-iy-test.true)) in
-    record { fits = omega (arith, here.1, c.requires.sized.h_most) }
-
-pub loop-iy-preserved : goal.loop-iy-preserved
-loop-iy-preserved c = let a = c.args in
-    let here = c.blocks_end-end.ensures c.loop-iy.iy (omega (arith, c.loop-iy-test.true)) in
-    (going_by (depth_cells (within a.side) (screen_of a.s) a.number a.w) a.w (a.w * a.h) a.ix a.y0 a.y1 (layer a.pix2tri.now a.pix2depth.now a.pix2weights.now) c.requires.within.order (layer c.loop-iy.pix2tri c.loop-iy.pix2depth c.loop-iy.pix2weights) _ c.loop-iy.iy (c.loop-iy.iy + 4) (omega (arith, here.0)) (omega arith) c.loop-iy.invariant.0 c.visit_four.ensures, on_4 c.loop-iy.qy c.loop-iy.iy c.loop-iy.invariant.1 (omega (arith, here.1, c.requires.sized.h_most)))
-
-pub shape_of-pix2tri : goal.shape_of-pix2tri
-shape_of-pix2tri c = c.loop-iy.invariant.0.spans.numbers ∙ sym c.requires.spans.numbers
-
-pub shape_of-pix2depth : goal.shape_of-pix2depth
-shape_of-pix2depth c = c.loop-iy.invariant.0.spans.depths ∙ sym c.requires.spans.depths
-
-pub shape_of-pix2weights : goal.shape_of-pix2weights
-shape_of-pix2weights c = c.loop-iy.invariant.0.spans.weights ∙ sym c.requires.spans.weights
-
-pub returns : goal.returns
-returns c = (c.loop-iy.invariant.0.from, c.loop-iy.invariant.0.is)
+pub loop-y-preserved : goal.loop-y-preserved
+loop-y-preserved c = let now = c.loop-y.invariant in
+    let here = c.blocks_end-end.ensures c.loop-y.y c.loop-y-test.true in
+    let s = now.0 in (
+      same_then s c.visit_four.ensures.same,
+      going_by _ _ _ _ _ _ _ c.requires.within.order _ _ c.loop-y.y _ (omega (arith, here.0)) (omega arith) now.1 (rw (← s.width) at c.visit_four.ensures.visited),
+      now.2,
+      on_4 c.loop-y.q.y c.loop-y.y now.3 (omega (arith, here.1, c.args.layer.now.size.sized.h_most)),
+    )

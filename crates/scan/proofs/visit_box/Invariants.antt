@@ -1,14 +1,10 @@
 -- `scan::visit_box`: one column more at each turn, as long as visits are left.
-use Prim.Native.Nat.{◌*◌, ◌-◌}
-use Rattle.cells.specs.Layer.{layer}
-use Rattle.boxes.specs.Answer.{screen_of}
-use Rattle.lanes.specs.Answer.{within}
-use Rattle.blocks.specs.Rows.{depth_cells}
+use Rattle.std.specs.Prelude.{◌*◌}
+use Rattle.cells.specs.Lent.{held, SameBuffers}
+use Rattle.blocks.specs.Brush.{brush_cells}
 use Rattle.scan.proofs.Columns.{Stopping}
 use Rattle.scan.proofs.visit_box.Given as goal
 
-abbrev pub invariant-loop-ix : goal.invariant-loop-ix
-invariant-loop-ix l = Stopping (depth_cells (within l.side) (screen_of l.s) l.number l.w) l.w (l.w * l.h) l.b l.n (layer l.initial.pix2tri l.initial.pix2depth l.initial.pix2weights) (layer l.pix2tri l.pix2depth l.pix2weights) l.ix l.left
-
-abbrev pub decreases-loop-ix : goal.decreases-loop-ix
-decreases-loop-ix l = l.b.x1 - l.ix
+abbrev pub invariant-loop-x : goal.invariant-loop-x
+invariant-loop-x l = let size = l.initial.layer.size in
+    SameBuffers l.initial.layer l.layer × Stopping (brush_cells l.b size.w) size.w (size.w * size.h) l.area l.n (held l.initial.layer) (held l.layer) l.x l.left
