@@ -1,23 +1,48 @@
 -- From what the steps of `interpolate_bwd` promise to its outcome.
-use Prim.Native.Nat.{ℕ, ◌*◌}
-use mathlib.Core.Path.{◌≡◌}
-use mathlib.Core.List.{List}
-use lib.Ieee.{Float}
-use Rattle.questions.specs.Questions.{outcome}
-use Rattle.questions.specs.Laws.{call_refused, call_done}
-use Rattle.meshes.specs.View.{view_of}
+use Rattle.std.specs.Prelude.{ℕ, ◌*◌, ◌≡◌, refl, Bool, true, ◌&&◌, List, Float, length, Err}
+use Rattle.std.proofs.Common.{sym, ◌∙◌, ap, ap₂}
+use Rattle.lists.specs.Laws.Tests.{both}
+use Rattle.questions.specs.declared.Refusal.{Refusal}
+use Rattle.questions.specs.Answer.{code_of}
+use Rattle.questions.specs.Questions.{exact, outcome}
+use Rattle.questions.specs.Laws.{exactly, call_done}
+use Rattle.questions.proofs.Laws.Refusals.{refused}
+use Rattle.meshes.specs.View.{View, view_of}
 use Rattle.pixel_rays.specs.Rays.{Image}
+use Rattle.pixel_rays.specs.Answer.{image_of, shown}
 use Rattle.vertex_values.specs.Pass.{Vertices}
+use Rattle.vertex_values.specs.Questions.{pass_code}
+use Rattle.vertex_values.specs.declared.Pass.{Pass}
+use Rattle.vertex_values.specs.Answer.{vertices_of, Lent}
 use Rattle.pixel_bwd.specs.Additions.{Sums}
 use Rattle.image_bwd.specs.Summed.{summed_over}
-use Rattle.values_bwd.specs.Bwd.{bwd_code, interpolating_bwd}
+use Rattle.values_bwd.specs.Bwd.{interpolating_bwd}
+use Rattle.values_bwd.specs.Laws.{bwd_code_lem}
 
-module _ (g : Image) (s : Vertices) (tri map : List ℕ) (dldw : List Float) (old : Sums) (code : ℕ) where
-  pub refused : code ≡ bwd_code g s tri map dldw old → (code ≡ 0 → ⊥) → outcome code old ≡ interpolating_bwd g s tri map dldw old
+module _ (g : Image) (s : Vertices) (tri map : List ℕ) (dldw : List Float) (old : Sums) {four : Bool} (f : four ≡ exact (length s.xyz) (length old.xyz) && exact (length s.val) (length old.val)) where
+  pub not_done : (r : Refusal) → code_of (Err r) ≡ pass_code g s tri map (length dldw) four → outcome (code_of (Err r)) old ≡ interpolating_bwd g s tri map dldw old
   unfolding interpolating_bwd
-  refused e no0 = call_refused _ e no0
+  not_done r e = refused r _ (bwd_code_lem g s tri map dldw old f e)
 
-  pub done : (new : Sums) → code ≡ bwd_code g s tri map dldw old → code ≡ 0 → new ≡ summed_over g s (view_of tri map) dldw 0 (g.w * g.h) old
-      → outcome 0 new ≡ interpolating_bwd g s tri map dldw old
+  pub done : (p : Pass) {n : ℕ} (new : Sums) → 0 ≡ pass_code g s tri map (length dldw) four → Lent p g s (view_of tri map) n
+      → new ≡ summed_over (image_of p.view) (vertices_of p) (shown p.view) dldw 0 (p.view.size.w * p.view.size.h) old → outcome 0 new ≡ interpolating_bwd g s tri map dldw old
   unfolding interpolating_bwd
-  done new e zero0 made = call_done old e zero0 made
+  done p new e l made =
+      call_done old (bwd_code_lem g s tri map dldw old f e) refl
+      (made
+      ∙ ap (λ (i : Image). summed_over i (vertices_of p) (shown p.view) dldw 0 (i.w * i.h) old) l.of_image
+      ∙ ap₂ (λ (t : Vertices) (v : View). summed_over g t v dldw 0 (g.w * g.h) old) l.of_vertices l.of_view)
+
+-- what is known of the lengths then
+module _ (p : Pass) {g : Image} {s : Vertices} {v : View} {n : ℕ} (l : Lent p g s v n) where
+  pub incoming_whole : n ≡ p.view.size.w * p.view.size.h * p.num_vdim
+  incoming_whole =
+      l.channels
+      ∙ ap (λ (i : Image). i.w * i.h * s.channels) (sym l.of_image)
+      ∙ ap (λ (t : Vertices). p.view.size.w * p.view.size.h * t.channels) (sym l.of_vertices)
+
+  pub sums_whole : {four : Bool} (xyz val : ℕ) → four ≡ exact (length s.xyz) xyz && exact (length s.val) val → four ≡ true
+      → (xyz ≡ length p.view.mesh.vtx2xyz.now) × (val ≡ length p.vtx2val.now)
+  sums_whole xyz val f e =
+      let yes = both (exact (length s.xyz) xyz) _ (sym f ∙ e) in
+      (exactly _ _ yes.0 ∙ ap (λ (t : Vertices). length t.xyz) (sym l.of_vertices), exactly _ _ yes.1 ∙ ap (λ (t : Vertices). length t.val) (sym l.of_vertices))

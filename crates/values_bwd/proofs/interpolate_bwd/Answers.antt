@@ -1,16 +1,15 @@
-use mathlib.Core.Path.{sym, ◌∙◌}
-use Rattle.pixel_bwd.specs.Additions.{sums}
-use Rattle.values_bwd.specs.Laws.{bwd_code_lem, bwd_accepted}
-use Rattle.values_bwd.proofs.Bwd.{refused, done}
+use Rattle.std.proofs.Common.{rules}
+use Rattle.values_bwd.proofs.Bwd.{not_done, done, incoming_whole, sums_whole}
 use Rattle.values_bwd.proofs.interpolate_bwd.Goals as goal
 
-pub returns-then-code-ne0 : goal.returns-then-code-ne0
-returns-then-code-ne0 c = refused _ _ _ _ _ (sums _ _) _ (bwd_code_lem _ _ _ _ _ (sums _ _) c.sums_ok-exact.ensures c.pass_code-code.ensures) c.if-code-ne0.true
+pub returns-in_err-pass : goal.returns-in_err-pass
+returns-in_err-pass c = search (rules, not_done)
 
-pub add_image-requires : goal.add_image-requires
-add_image-requires c = let old = sums c.args.dldw_vtx2xyz.now c.args.dldw_vtx2val.now in
-    let d = c.args.dldw_pix2val.now in
-    let k = bwd_accepted _ _ _ _ d old (sym (bwd_code_lem _ _ _ _ d old c.sums_ok-exact.ensures c.pass_code-code.ensures) ∙ c.if-code-ne0.false) in record { sound_map = k.0.shown; vtx2val_len = k.0.values; dxyz_len = k.1; dval_len = k.2; dldw_len = k.0.channels }
+pub invariant_of-sums : goal.invariant_of-sums
+invariant_of-sums c =
+    let lent = c.in_ok-pass.ensures.lent in
+    let whole = sums_whole _ lent _ _ c.sums_ok-exact.ensures c.in_ok-pass.ensures.exact in
+    record { incoming = incoming_whole _ lent; xyz = whole.0; val = whole.1 }
 
 pub returns : goal.returns
-returns c = done _ _ _ _ _ (sums _ _) _ (sums _ _) (bwd_code_lem _ _ _ _ _ (sums _ _) c.sums_ok-exact.ensures c.pass_code-code.ensures) c.if-code-ne0.false c.add_image.ensures
+returns c = done _ _ _ _ _ _ c.sums_ok-exact.ensures c.in_ok-pass.pass _ c.in_ok-pass.ensures.code c.in_ok-pass.ensures.lent (search rules)
