@@ -1,203 +1,92 @@
-// Drawing three projected corners on a layer: their pieces, each off the image or by the scan of its box. No function here is a public call.
+// Drawing a face on a layer by its projected corners: its pieces, each off the image or by the scan of its box. No function here is a public call.
 #![tactic(auto)]
 
 ghost use Rattle.std.specs.Prelude.{◌≡◌, ◌*◌};
-ghost use Rattle.questions.specs.Laws.{Sized};
-ghost use Rattle.cells.specs.Layer.{layer};
-ghost use Rattle.cells.specs.Steps.{Spans};
-ghost use Rattle.rules.specs.Piece.{two_pieces, corners_pieces};
+ghost use Rattle.cells.specs.Lent.{held, SameBuffers};
 ghost use Rattle.corners.specs.Answer.{corner_of};
+ghost use Rattle.rules.specs.Piece.{corners_pieces};
 ghost use Rattle.rules.specs.Draw.{painted};
 ghost use Rattle.rules.specs.Visits.{piece_cells, stopped_after};
 ghost use Rattle.pieces.specs.Answer.{piece_of, pieces_of};
 ghost use Rattle.raster.specs.Face.{pieces_cells};
 
+use blocks::Brush;
+use cells::LayerMut;
 use corners::Corner;
-use pieces::{Lone, Pieces};
+use geometry::Triangle;
+use lanes::Side;
+use pieces::{Piece, Pieces};
 use rules::Facing;
 
-// The Rust's rasterize_projected_tri: one piece, off the image, or the scan of its box; stopped after n visits. Whether its corners are listed turned round
-// stands beside the array.
+// The Rust's rasterize_projected_tri: one piece, off the image, or the scan of its box; stopped after n visits.
 pub fn rasterize_projected_tri(
-    pix2tri: &mut [u32],
-    pix2depth: &mut [f32],
-    pix2weights: &mut [f32],
-    w: usize,
-    h: usize,
+    layer: &mut LayerMut,
     number: u32,
-    ndc: [[f32; 3]; 3],
-    turned: bool,
+    piece: Piece,
     n: usize,
     facing: Facing,
 )
-    requires sized { Sized 1 w h }
-    requires spans { Spans (layer pix2tri.old pix2depth.old pix2weights.old) (w * h) }
-    ensures { layer pix2tri.new pix2depth.new pix2weights.new ≡ stopped_after n facing w h (piece_of turned ndc) number (layer pix2tri.old pix2depth.old pix2weights.old) }
+    ensures same { SameBuffers layer.old layer.new }
+    ensures stopped { held layer.new ≡ stopped_after n facing layer.old.size.w layer.old.size.h (piece_of piece) number (held layer.old) }
 {
-    if !boxes::meets_image(w, h, ndc) {
+    let size = layer.size;
+    if !boxes::meets_image(size, piece.corners) {
         return;
     }
-    let s = boxes::screened(w, h, ndc);
-    let b = boxes::box_of(w, h, s);
-    let side = lanes::side_of(facing, turned);
-    scan::visit_box(pix2tri, pix2depth, pix2weights, w, h, s, side, number, b, n);
+    let screen = boxes::screened(size, piece.corners);
+    let Some(area) = boxes::box_of(size, screen) else {
+        return;
+    };
+    let side = Side::of(facing, piece.turned);
+    let brush = Brush {
+        screen,
+        side,
+        number,
+    };
+    scan::visit_box(layer, &brush, area, n);
 }
 
 // One piece, whole: the scan may make as many visits as the largest image has pixels.
-fn draw_piece(
-    pix2tri: &mut [u32],
-    pix2depth: &mut [f32],
-    pix2weights: &mut [f32],
-    w: usize,
-    h: usize,
-    number: u32,
-    ndc: [[f32; 3]; 3],
-    turned: bool,
-    facing: Facing,
-)
-    requires sized { Sized 1 w h }
-    requires spans { Spans (layer pix2tri.old pix2depth.old pix2weights.old) (w * h) }
-    ensures { layer pix2tri.new pix2depth.new pix2weights.new ≡ painted (piece_cells facing w h (piece_of turned ndc) number) (w * h) (layer pix2tri.old pix2depth.old pix2weights.old) }
+fn draw_piece(layer: &mut LayerMut, number: u32, piece: Piece, facing: Facing)
+    ensures same { SameBuffers layer.old layer.new }
+    ensures painted { held layer.new
+        ≡ painted (piece_cells facing layer.old.size.w layer.old.size.h (piece_of piece) number) (layer.old.size.w * layer.old.size.h) (held layer.old) }
 {
-    rasterize_projected_tri(
-        pix2tri,
-        pix2depth,
-        pix2weights,
-        w,
-        h,
-        number,
-        ndc,
-        turned,
-        16_777_216,
-        facing,
-    );
+    rasterize_projected_tri(layer, number, piece, 16_777_216, facing);
 }
 
-// The two pieces of a face with a corner alone before the near plane.
-fn draw_two(
-    pix2tri: &mut [u32],
-    pix2depth: &mut [f32],
-    pix2weights: &mut [f32],
-    w: usize,
-    h: usize,
-    number: u32,
-    l: Lone,
-    facing: Facing,
-)
-    requires sized { Sized 1 w h }
-    requires spans { Spans (layer pix2tri.old pix2depth.old pix2weights.old) (w * h) }
-    ensures { layer pix2tri.new pix2depth.new pix2weights.new ≡ painted (pieces_cells facing w h (two_pieces l.turned (corner_of l.lone) (corner_of l.a) (corner_of l.b)) number) (w * h) (layer pix2tri.old pix2depth.old pix2weights.old) }
+fn draw_pieces(layer: &mut LayerMut, number: u32, pieces: Pieces, facing: Facing)
+    ensures same { SameBuffers layer.old layer.new }
+    ensures painted { held layer.new
+        ≡ painted (pieces_cells facing layer.old.size.w layer.old.size.h (pieces_of pieces) number) (layer.old.size.w * layer.old.size.h) (held layer.old) }
 {
-    let turned = l.turned;
-    let first = pieces::first_piece(l);
-    draw_piece(
-        pix2tri,
-        pix2depth,
-        pix2weights,
-        w,
-        h,
-        number,
-        first,
-        turned,
-        facing,
-    );
-    let second = pieces::second_piece(l);
-    draw_piece(
-        pix2tri,
-        pix2depth,
-        pix2weights,
-        w,
-        h,
-        number,
-        second,
-        turned,
-        facing,
-    );
-}
-
-fn draw_pieces(
-    pix2tri: &mut [u32],
-    pix2depth: &mut [f32],
-    pix2weights: &mut [f32],
-    w: usize,
-    h: usize,
-    number: u32,
-    ps: Pieces,
-    facing: Facing,
-)
-    requires sized { Sized 1 w h }
-    requires spans { Spans (layer pix2tri.old pix2depth.old pix2weights.old) (w * h) }
-    ensures { layer pix2tri.new pix2depth.new pix2weights.new ≡ painted (pieces_cells facing w h (pieces_of ps) number) (w * h) (layer pix2tri.old pix2depth.old pix2weights.old) }
-{
-    match ps {
+    match pieces {
         Pieces::Nothing => {}
-        Pieces::Whole(a, b, c) => {
-            let t = pieces::whole(a, b, c);
-            draw_piece(
-                pix2tri,
-                pix2depth,
-                pix2weights,
-                w,
-                h,
-                number,
-                t,
-                false,
-                facing,
-            );
-        }
-        Pieces::One(l) => {
-            let only = pieces::one_piece(l);
-            draw_piece(
-                pix2tri,
-                pix2depth,
-                pix2weights,
-                w,
-                h,
-                number,
-                only,
-                l.turned,
-                facing,
-            );
-        }
+        Pieces::Whole(t) => draw_piece(layer, number, pieces::whole(t), facing),
+        Pieces::One(l) => draw_piece(layer, number, l.one_piece(), facing),
         Pieces::Two(l) => {
-            draw_two(pix2tri, pix2depth, pix2weights, w, h, number, l, facing);
+            draw_piece(layer, number, l.first_piece(), facing);
+            draw_piece(layer, number, l.second_piece(), facing);
         }
     }
 }
 
 // The face of three corners, projected and scored: whole, or its pieces.
 pub fn draw_corners(
-    pix2tri: &mut [u32],
-    pix2depth: &mut [f32],
-    pix2weights: &mut [f32],
-    w: usize,
-    h: usize,
+    layer: &mut LayerMut,
     number: u32,
     t11: f32,
-    v0: Corner,
-    v1: Corner,
-    v2: Corner,
+    t: Triangle<Corner>,
     facing: Facing,
 )
-    requires sized { Sized 1 w h }
-    requires spans { Spans (layer pix2tri.old pix2depth.old pix2weights.old) (w * h) }
-    ensures { layer pix2tri.new pix2depth.new pix2weights.new ≡ painted (pieces_cells facing w h (corners_pieces t11 (corner_of v0) (corner_of v1) (corner_of v2)) number) (w * h) (layer pix2tri.old pix2depth.old pix2weights.old) }
+    ensures same { SameBuffers layer.old layer.new }
+    ensures painted { held layer.new
+        ≡ painted (pieces_cells facing layer.old.size.w layer.old.size.h (corners_pieces t11 (corner_of t.p0) (corner_of t.p1) (corner_of t.p2)) number)
+        (layer.old.size.w * layer.old.size.h) (held layer.old) }
 {
-    if pieces::stays_whole(t11, v0, v1, v2) {
-        let t = pieces::whole(v0, v1, v2);
-        draw_piece(
-            pix2tri,
-            pix2depth,
-            pix2weights,
-            w,
-            h,
-            number,
-            t,
-            false,
-            facing,
-        );
+    if pieces::stays_whole(t11, t) {
+        draw_piece(layer, number, pieces::whole(t), facing);
         return;
     }
-    let ps = pieces::clip(t11, v0, v1, v2);
-    draw_pieces(pix2tri, pix2depth, pix2weights, w, h, number, ps, facing);
+    draw_pieces(layer, number, pieces::clip(t11, t), facing);
 }
