@@ -74,8 +74,11 @@ fn pieces_pixels(size: ImageSize, ps: Pieces) -> u64
         Pieces::Nothing => 0,
         Pieces::Whole(t) => piece_pixels(size, pieces::whole(t)),
         Pieces::One(l) => piece_pixels(size, l.one_piece()),
-        Pieces::Two(l) => piece_pixels(size, l.first_piece())
-            + piece_pixels(size, l.second_piece()),
+        Pieces::Two(l) => {
+            let first = l.first_piece();
+            let second = l.second_piece();
+            piece_pixels(size, first) + piece_pixels(size, second)
+        }
     }
 }
 

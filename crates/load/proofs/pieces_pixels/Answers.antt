@@ -18,5 +18,5 @@ overflow_add-result c = record { fits = omega (arith, two_fit _ _ c.args.size.si
 
 pub returns-in-Two : goal.returns-in-Two
 unfolding two_pieces
-returns-in-Two c = rw (c.in-Two.is, ← c.first_piece.ensures, ← c.second_piece.ensures)
+returns-in-Two c = rw (c.in-Two.is, ← c.first_piece-first.ensures, ← c.second_piece-second.ensures)
     (sum_of_two _ _ _ _ c.piece_pixels-in-Two.ensures c.piece_pixels-in-Two-2.ensures)
