@@ -1,5 +1,4 @@
 use borrow.Author.Count.{below_more}
-use borrow.Author.Tests.{not-false}
 use Rattle.pixel_unwraps.proofs.all_weigh_or_inner.Goals as goal
 
 pub loop-y-preserved : goal.loop-y-preserved
