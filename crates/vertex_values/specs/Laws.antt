@@ -1,11 +1,10 @@
 -- What the questions say, answered yes.
-use Rattle.std.specs.Prelude.{ℕ, ◌+◌, ◌*◌, ◌≤◌, ◌<◌, ◌≡◌, Bool, true, ◌&&◌, List, [], length}
-use Rattle.std.proofs.Common.{sym, mul-le-mul, mul-le-mul_right, arith}
+use Rattle.std.specs.Prelude.{ℕ, ◌+◌, ◌*◌, ◌≤◌, ◌<◌, ◌≡◌, Bool, true, ◌&&◌, List, length}
+use Rattle.std.proofs.Common.{mul-le-mul, mul-le-mul_right, arith}
 use Rattle.lists.specs.Laws.Tests.{both}
-use Rattle.questions.specs.Questions.{first_no, exact, opening, naming, most_count}
+use Rattle.questions.specs.Questions.{exact, most_count}
 use Rattle.questions.specs.Laws.{Channels, accepted, exactly}
 use Rattle.questions.proofs.Laws.Opening.{opened, named_well}
-use Rattle.pixels.specs.Laws.{number_below}
 use Rattle.meshes.specs.Sound.{SoundMap}
 use Rattle.meshes.specs.Laws.{sound}
 use Rattle.pixel_rays.specs.Rays.{Image}
@@ -28,15 +27,6 @@ pub record Ready (g : Image) (s : Vertices) (tri map : List ℕ) (pixels : ℕ) 
   pub shown : SoundMap tri s.xyz map g.w g.h
   pub values : length s.val ≡ count s * s.channels
   pub channels : pixels ≡ g.w * g.h * s.channels
-
--- its questions up to 7, answered yes
-pub asked : (g : Image) (s : Vertices) (tri map : List ℕ) (pixels : ℕ) → 0 ≡ first_no (opening g.w g.h s.channels (length tri) (length s.xyz)) → exact_pass g s map pixels ≡ true
-    → 0 ≡ first_no (naming (count s) tri map) → Ready g s tri map pixels
-asked g s tri map pixels first four last =
-    let o = (opened g.w g.h s.channels (length tri) (length s.xyz) [] (sym first)).0 in
-    let k = exact_parts _ _ _ _ _ _ _ four in
-    let q = named_well (count s) tri map [] (sym last) in
-    record { shown = sound o.size o.faces o.vertices k.0 q.0 q.1; values = k.1; channels = k.2 }
 
 pub ready : (g : Image) (s : Vertices) (tri map : List ℕ) (pixels : ℕ) (others : Bool) → pass_code g s tri map pixels others ≡ 0 → Ready g s tri map pixels × (others ≡ true)
 unfolding pass_code
@@ -61,13 +51,3 @@ value_there {len} {n} {c} v j e l k = rw e (omega (arith, run_below v n c l))
 -- the same in a buffer of n runs of c
 pub run_there : {v n c k len : ℕ} → k ≡ c → len ≡ n * c → v < n → v * k + k ≤ len
 run_there {v} {n} {c} ek e l = rw (ek, e) (run_below v n c l)
-
--- pixel p: its entry is in the map, and its run of channels in a buffer
-pub record Run (entries channels c p : ℕ) : Type 0 where
-  pub entry : p < entries
-  pub run : p * c + c ≤ channels
-
-pub run_at : {w h entries channels ix iy : ℕ} (c : ℕ) → entries ≡ w * h → channels ≡ w * h * c → ix < w → iy < h → Run entries channels c (iy * w + ix)
-run_at {w} {h} {entries} {channels} {ix} {iy} c e f a b =
-    let below = number_below a b in
-    record { entry = omega arith; run = omega (arith, run_below (iy * w + ix) (w * h) c below) }

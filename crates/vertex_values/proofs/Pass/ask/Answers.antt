@@ -1,10 +1,8 @@
 use Rattle.std.proofs.Common.{sym, refl, ◌∙◌, ◌≡◌, ◌/◌, length, true, []}
 use Rattle.lists.specs.Laws.Tests.{so}
 use Rattle.questions.proofs.Laws.Opening.{opened, named_well}
-use Rattle.meshes.specs.Laws.{sound_mesh}
-use Rattle.pixel_rays.specs.Rays.{image}
-use Rattle.vertex_values.specs.Pass.{vertices}
-use Rattle.vertex_values.specs.Laws.{exact_parts, asked}
+use Rattle.meshes.specs.Laws.{sound_mesh, sound}
+use Rattle.vertex_values.specs.Laws.{exact_parts}
 use Rattle.vertex_values.proofs.Asked.{yes}
 use Rattle.vertex_values.proofs.Pass.ask.Goals as goal
 use Rattle.vertex_values.proofs.Pass.ask.Goals.{then-exact, else-exact}
@@ -18,13 +16,16 @@ exact_ok-exact-requires c = let o = (opened _ _ _ _ _ [] (sym c.in_ok-ask_openin
 pub invariant_of-mesh : goal.invariant_of-mesh
 invariant_of-mesh c =
     let o = (opened _ _ _ _ _ [] (sym c.in_ok-ask_opening.ensures)).0 in
-    record { sound = sound_mesh o.faces o.vertices (named_well (length c.args.vtx2xyz.now / 3) c.args.tri2vtx.now c.args.pix2tri.now [] (sym c.in_ok-ask_naming.ensures)).0 }
+    let q = named_well (length c.args.vtx2xyz.now / 3) c.args.tri2vtx.now c.args.pix2tri.now [] (sym c.in_ok-ask_naming.ensures) in
+    record { sound = sound_mesh o.faces o.vertices q.0 }
 
 pub invariant_of-view : goal.invariant_of-view
 invariant_of-view c =
+    let o = (opened _ _ _ _ _ [] (sym c.in_ok-ask_opening.ensures)).0 in
     let e : c.if-exact.ask ≡ true = yes _ _ _ c.in_ok-ask.ensures in
     let four : c.exact_ok-exact.result ≡ true = elim c.if-exact.branch [ then-exact w ↦ w.if-exact.true | else-exact w ↦ cc ] in
-    record { sound = (asked (image c.args.w c.args.h c.args.m.now) (vertices c.args.vtx2xyz.now c.args.num_vdim c.args.vtx2val.now) c.args.tri2vtx.now c.args.pix2tri.now c.args.pixels c.in_ok-ask_opening.ensures (so c.exact_ok-exact.ensures four) c.in_ok-ask_naming.ensures).shown }
+    let q = named_well (length c.args.vtx2xyz.now / 3) c.args.tri2vtx.now c.args.pix2tri.now [] (sym c.in_ok-ask_naming.ensures) in
+    record { sound = sound o.size o.faces o.vertices (exact_parts _ _ _ _ _ _ _ (so c.exact_ok-exact.ensures four)).0 q.0 q.1 }
 
 pub invariant_of-result : goal.invariant_of-result
 invariant_of-result c =
