@@ -1,6 +1,6 @@
 -- The faces of a list, drawn one after the other.
 use Prim.Native.Nat.{ℕ, ◌+◌, ◌*◌, ◌/◌, ◌≤◌, ◌<◌}
-use mathlib.Core.Path.{◌≡◌, refl, sym, ap, ◌∙◌}
+use mathlib.Core.Path.{◌≡◌, sym, ap, ◌∙◌}
 use mathlib.Core.List.{List, ◌∷◌, ◌++◌}
 use native.Mathlib.Numerals.{add-one}
 use native.Mathlib.Omega.{arith}
@@ -32,33 +32,33 @@ module _ (sc : Scene) where
       ∙ painted-append (sc.width * sc.height) cur (pieces_cells sc.facing sc.width sc.height (face_pieces sc f) k) (brought sc fs (k + 1))
       ∙ painted_same (sc.width * sc.height) cur (λ p. pieces_cells sc.facing sc.width sc.height (face_pieces sc f) k p ++ brought sc fs (k + 1) p) (brought sc (f ∷ fs) k) (λ p m. rest_is f fs k p)
 
--- Before face i: it has number k, and it and the faces after it are all that is left to draw.
-pub record Left (sc : Scene) (fs : List Face) (first : ℕ) (l cur : Layer) (i k : ℕ) : Type 0 where
-  pub number : k ≡ first + i
+-- Before face i: it and the faces after it are all that is left to draw.
+pub record Left (sc : Scene) (fs : List Face) (first : ℕ) (l cur : Layer) (i : ℕ) : Type 0 where
   pub spans : Spans cur (sc.width * sc.height)
-  pub is : drawn sc (drop i fs) k cur ≡ drawn sc fs first l
+  pub is : drawn sc (drop i fs) (first + i) cur ≡ drawn sc fs first l
 
-pub left_all : (sc : Scene) (fs : List Face) (first : ℕ) (l : Layer) → Spans l (sc.width * sc.height) → Left sc fs first l l 0 first
-left_all sc fs first l s = record { number = omega arith; spans = s; is = refl }
+pub left_all : (sc : Scene) (fs : List Face) (first : ℕ) (l : Layer) → Spans l (sc.width * sc.height) → Left sc fs first l l 0
+left_all sc fs first l s = let e : first + 0 ≡ first = omega arith in record { spans = s; is = ap (λ (k : ℕ). drawn sc fs k l) e }
 
 pub left_less :
-    (sc : Scene) (tri : List ℕ) (first : ℕ) (l cur new : Layer) (i k : ℕ)
+    (sc : Scene) (tri : List ℕ) (first : ℕ) (l cur new : Layer) (i : ℕ)
     → i < length tri / 3
-    → Left sc (faces_of tri) first l cur i k
-    → new ≡ painted (pieces_cells sc.facing sc.width sc.height (face_pieces sc (face_at tri i)) k) (sc.width * sc.height) cur
-    → Left sc (faces_of tri) first l new (i + 1) (k + 1)
-left_less sc tri first l cur new i k h t e =
+    → Left sc (faces_of tri) first l cur i
+    → new ≡ painted (pieces_cells sc.facing sc.width sc.height (face_pieces sc (face_at tri i)) (first + i)) (sc.width * sc.height) cur
+    → Left sc (faces_of tri) first l new (i + 1)
+left_less sc tri first l cur new i h t e =
+    let next : first + (i + 1) ≡ first + i + 1 = omega arith in
     record {
-      number = omega (arith, t.number);
-      spans = rw e (spans-painted (pieces_cells sc.facing sc.width sc.height (face_pieces sc (face_at tri i)) k) (sc.width * sc.height) cur);
+      spans = rw e (spans-painted (pieces_cells sc.facing sc.width sc.height (face_pieces sc (face_at tri i)) (first + i)) (sc.width * sc.height) cur);
       is =
-          face_done sc (face_at tri i) (drop (i + 1) (faces_of tri)) k cur new e
-          ∙ ap (λ (fs : List Face). drawn sc fs k cur) (sym (faces-from tri i h))
+          ap (λ (k : ℕ). drawn sc (drop (i + 1) (faces_of tri)) k new) next
+          ∙ face_done sc (face_at tri i) (drop (i + 1) (faces_of tri)) (first + i) cur new e
+          ∙ ap (λ (fs : List Face). drawn sc fs (first + i) cur) (sym (faces-from tri i h))
           ∙ t.is;
     }
 
-pub left_none : (sc : Scene) (tri : List ℕ) (first : ℕ) (l cur : Layer) (i k : ℕ) → length tri / 3 ≤ i → Left sc (faces_of tri) first l cur i k → cur ≡ drawn sc (faces_of tri) first l
-left_none sc tri first l cur i k h t =
-    sym (drawn_none sc k cur t.spans)
-    ∙ ap (λ (fs : List Face). drawn sc fs k cur) (sym (drop_of_length-le (faces_of tri) {i = i} (omega (arith, length-faces tri))))
+pub left_none : (sc : Scene) (tri : List ℕ) (first : ℕ) (l cur : Layer) (i : ℕ) → length tri / 3 ≤ i → Left sc (faces_of tri) first l cur i → cur ≡ drawn sc (faces_of tri) first l
+left_none sc tri first l cur i h t =
+    sym (drawn_none sc (first + i) cur t.spans)
+    ∙ ap (λ (fs : List Face). drawn sc fs (first + i) cur) (sym (drop_of_length-le (faces_of tri) {i = i} (omega (arith, length-faces tri))))
     ∙ t.is
