@@ -9,12 +9,14 @@ ghost use Rattle.std.specs.Float.Ieee.Scale as scale;
 ghost use Rattle.geometry.specs.Leaf as leaf;
 ghost use Rattle.geometry.specs.Answer.{point2, point3, weights_of, maybe_weights, corner_weights_of, projection_of};
 
+// A point or a vector of the plane, of the picture in pixels or in normalised device coordinates.
 #[derive(Clone, Copy)]
 pub struct Vec2 {
     pub x: f32,
     pub y: f32,
 }
 
+// A point or a vector of space, of the world in its unit or in normalised device coordinates, from −1 to 1 over the picture.
 #[derive(Clone, Copy)]
 pub struct Vec3 {
     pub x: f32,
@@ -22,7 +24,7 @@ pub struct Vec3 {
     pub z: f32,
 }
 
-// A projected point p, and the divisor w that it came from.
+// A projected point p, in normalised device coordinates, and the divisor w that it came from.
 #[derive(Clone, Copy)]
 pub struct Projected {
     pub p: Vec3,
@@ -37,7 +39,7 @@ pub struct Triangle<P> {
     pub p2: P,
 }
 
-// A weight for each corner.
+// A weight for each corner, a number without a unit; or, before they are divided, an area.
 #[derive(Clone, Copy)]
 pub struct Weights {
     pub b0: f32,
@@ -45,7 +47,7 @@ pub struct Weights {
     pub b2: f32,
 }
 
-// Weights b, and the sum s of the areas that they are over: the doubled signed area of the triangle.
+// Weights b, and the sum s of the areas that they are over: the doubled signed area of the triangle, in the square of its corners' unit.
 #[derive(Clone, Copy)]
 pub struct CornerWeights {
     pub b: Weights,
@@ -67,6 +69,7 @@ pub fn finite(x: f32) -> bool
     x.is_finite()
 }
 
+// The doubled signed area of the triangle a, b, c, in the square of their unit: above 0 where they run counter-clockwise, with y upwards.
 #[tactic(auto, unfolding(crate::specs::Formula::cross2))]
 pub fn cross2(a: Vec2, b: Vec2, c: Vec2) -> f32
     ensures { result ≡ formula.cross2 floats (point2 a) (point2 b) (point2 c) }
@@ -89,6 +92,7 @@ pub fn weighed(a: Weights, s: f32) -> Option<Weights>
     })
 }
 
+// The weights of q in a triangle, none where they have no answer.
 #[tactic(auto, unfolding(crate::specs::Leaf::corner_weights, crate::specs::Leaf::weighed_with_sum, crate::specs::Leaf::weighed_all, crate::specs::Leaf::with_sum, crate::specs::Formula::areas, crate::specs::Formula::total))]
 pub fn corner_weights(q: Vec2, t: Triangle<Vec2>) -> Option<CornerWeights>
     ensures { corner_weights_of result ≡ leaf.corner_weights (point2 q) (point2 t.p0) (point2 t.p1) (point2 t.p2) }
@@ -103,7 +107,7 @@ pub fn corner_weights(q: Vec2, t: Triangle<Vec2>) -> Option<CornerWeights>
     Some(CornerWeights { b, s })
 }
 
-// One coordinate of a point from weights.
+// One coordinate of a point from weights, in the corners' unit.
 #[tactic(auto, unfolding(crate::specs::Formula::blend))]
 pub fn blend(b: Weights, p0: f32, p1: f32, p2: f32) -> f32
     ensures { result ≡ formula.blend floats (weights_of b) p0 p1 p2 }
@@ -111,7 +115,7 @@ pub fn blend(b: Weights, p0: f32, p1: f32, p2: f32) -> f32
     b.b0 * p0 + b.b1 * p1 + b.b2 * p2
 }
 
-// Row r of the matrix times x.
+// Row r of the matrix, which lies column by column, times (x, 1).
 #[tactic(auto, unfolding(crate::specs::Formula::row))]
 pub fn row(m: &[f32; 16], r: usize, x: Vec3) -> f32
     requires { r < 4 }
@@ -120,7 +124,7 @@ pub fn row(m: &[f32; 16], r: usize, x: Vec3) -> f32
     m[r] * x.x + m[4 + r] * x.y + m[8 + r] * x.z + m[12 + r]
 }
 
-// None where the divisor is 0.
+// The point that the matrix takes x to, none where the divisor is 0.
 #[tactic(auto, unfolding(crate::specs::Leaf::project, crate::specs::Leaf::divided, crate::specs::Formula::over))]
 pub fn project(m: &[f32; 16], x: Vec3) -> Option<Projected>
     ensures { projection_of result ≡ leaf.project m.now (point3 x) }

@@ -1,7 +1,7 @@
 -- Proved of the definitions, for the crates that use them.
 use Rattle.std.specs.Prelude.{ℕ, zero, suc, ◌+◌, ◌-◌, ◌*◌, ◌/◌, ◌≤◌, ◌<◌, ◌≡◌, refl, true, ltb, Float, length, get_or, take, drop}
 use Rattle.std.proofs.Common.{sym, ap, ◌∙◌, not-suc-le-zero, le_of_suc-le-suc, zero-add, add-one, arith, eq-eqb, ne_eqb, length-set, length-drop, drop-cons, length-take-le, get_or-take, get_or-drop}
-use Rattle.std.proofs.Math.Option.{Option, none, some}
+use Rattle.std.proofs.Math.Option.{none, some}
 use mathlib.Core.List.{List, [], ◌∷◌, ◌++◌, flat_map}
 use Rattle.lists.specs.Lists.{span}
 use Rattle.lists.specs.Laws.Turns.{flat_map_none, flat_map-one, flat_map-add}

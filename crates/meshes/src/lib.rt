@@ -12,7 +12,7 @@ ghost use Rattle.meshes.specs.Sums.{added, addition};
 use geometry::{Projected, Triangle, Vec3};
 use pixels::{ImageSize, Pixel};
 
-// Three vertex numbers.
+// Three vertex numbers, each counted from 0.
 #[derive(Clone, Copy)]
 pub struct Face {
     pub v0: usize,
@@ -20,7 +20,7 @@ pub struct Face {
     pub v2: usize,
 }
 
-// Faces and vertices as a call is lent them, once questions 3 and 6 are answered yes.
+// Faces, three vertex numbers each, and vertices, three coordinates of the world each, as a call is lent them, once questions 3 and 6 are answered yes.
 #[derive(Clone, Copy)]
 pub struct Mesh<'a> {
     pub tri2vtx: &'a [u32],
@@ -28,7 +28,8 @@ pub struct Mesh<'a> {
     pub ghost sound: { SoundMesh tri2vtx.now vtx2xyz.now },
 }
 
-// A mesh and a map of an image of it, once questions 1, 3, 4, 6 and 7 are answered yes, and the matrix that the call takes with them.
+// A mesh and a map of an image of it, once questions 1, 3, 4, 6 and 7 are answered yes, and the matrix that the call takes with them,
+// its sixteen numbers column by column.
 #[derive(Clone, Copy)]
 pub struct View<'a> {
     pub size: ImageSize,
@@ -117,7 +118,7 @@ impl Mesh<'_> {
         }
     }
 
-    // The corners of a face as the matrix takes them, none where one of them has no projection.
+    // The corners of a face as the matrix takes them, in normalised device coordinates, none where one of them has no projection.
     #[tactic(auto, unfolding(crate::specs::Mesh::project_face, crate::specs::Mesh::all_three))]
     pub fn project(&self, m: &[f32; 16], f: Face) -> Option<Triangle<Projected>>
         requires { Among (length self.now.vtx2xyz.now / 3) (face_of f) }

@@ -9,7 +9,7 @@ ghost use Rattle.pixels.specs.Edge as edge;
 
 use geometry::Vec2;
 
-// The width and height of an image, once question 1 is answered yes.
+// The width and height of an image in pixels, once question 1 is answered yes.
 #[derive(Clone, Copy)]
 pub struct ImageSize {
     pub w: usize,
@@ -27,7 +27,7 @@ impl ImageSize {
         self.w * self.h
     }
 
-    // The number of a pixel.
+    // The number of a pixel: row by row from the top, each from the left, from 0 on.
     #[tactic(auto, using(crate::specs::Laws::number_below, questions::specs::Laws::area))]
     pub fn number(self, p: Pixel) -> usize
         requires in_row { p.x < self.w }
@@ -47,7 +47,7 @@ impl ImageSize {
     }
 }
 
-// A column and a row.
+// A column, counted from the left, and a row, counted from the top, both from 0 on.
 #[derive(Clone, Copy)]
 pub struct Pixel {
     pub x: usize,
@@ -71,7 +71,7 @@ impl Axis {
     pub const VEDGE: Axis = Axis { right: 1, down: 0 };
 }
 
-// n as f32, of a column, row or size.
+// n as f32, of a column, a row or a number of pixels.
 pub fn as_float(n: usize) -> f32
     requires { n ≤ 4096 }
     ensures { result ≡ spec.as_float n }
@@ -79,7 +79,7 @@ pub fn as_float(n: usize) -> f32
     n as u32 as f32
 }
 
-// The centre of column or row i.
+// The centre of column or row i, in pixels from the picture's left or upper edge.
 #[tactic(auto, unfolding(crate::specs::Pixel::centre))]
 pub fn centre(i: usize) -> f32
     requires { i ≤ 4096 }
@@ -88,7 +88,7 @@ pub fn centre(i: usize) -> f32
     as_float(i) + 0.5
 }
 
-// The centre of a pixel.
+// The centre of a pixel, in pixels from the picture's left and upper edge.
 #[tactic(auto, unfolding(crate::specs::Pixel::centre_of))]
 pub fn centre_of(p: Pixel) -> Vec2
     requires column { p.x ≤ 4096 }

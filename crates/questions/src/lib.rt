@@ -62,16 +62,19 @@ pub fn code(answer: Result<(), Refusal>) -> u32
     }
 }
 
+// Pixels of a width or a height, at most.
 const MOST_SIZE: usize = 4096;
 
+// Numbers per pixel, at most.
 const MOST_CHANNELS: usize = 16;
 
+// Faces or vertices, at most.
 pub const MOST_COUNT: usize = 1048576;
 
 // The map's entry of a pixel that shows no face.
 pub const EMPTY: u32 = 4294967295;
 
-// Question 1: are width and height from `least` to 4,096?
+// Question 1: are width and height, in pixels, from `least` to 4,096?
 #[tactic(auto, unfolding(crate::specs::Questions::sizes))]
 pub fn sizes_ok(least: usize, width: usize, height: usize) -> bool
     ensures { result ≡ sizes least width height }

@@ -12,6 +12,7 @@ ghost use Rattle.rays.specs.Answer.{ray_of, pixel_ray_of};
 
 use geometry::{Triangle, Vec3, Weights};
 
+// A point of the world, and a vector from it on, of whatever length.
 #[derive(Clone, Copy)]
 pub struct Ray {
     pub org: Vec3,
@@ -69,7 +70,7 @@ fn along3(r: Ray, t: f32) -> Vec3
     }
 }
 
-// x of column ix in an image w wide.
+// x of column ix's centre in an image w pixels wide, in normalised device coordinates: from −1 at the left edge to 1.
 #[tactic(auto, using(crate::proofs::Two::two), unfolding(crate::specs::Pixel::column_at, crate::specs::Space::across))]
 pub fn column_at(w: usize, ix: usize) -> f32
     requires w_bound { w ≤ 4096 }
@@ -79,7 +80,7 @@ pub fn column_at(w: usize, ix: usize) -> f32
     2.0 * pixels::centre(ix) / pixels::as_float(w) - 1.0
 }
 
-// y of row iy in an image h high.
+// y of row iy's centre in an image h pixels high, in normalised device coordinates: from 1 at the upper edge to −1.
 #[tactic(auto, using(crate::proofs::Two::two), unfolding(crate::specs::Pixel::row_at, crate::specs::Space::down))]
 pub fn row_at(h: usize, iy: usize) -> f32
     requires h_bound { h ≤ 4096 }
@@ -89,7 +90,7 @@ pub fn row_at(h: usize, iy: usize) -> f32
     1.0 - 2.0 * pixels::centre(iy) / pixels::as_float(h)
 }
 
-// The ray at (x, y): from the point that m takes (x, y, 1) to, towards that of (x, y, −1); none where one of them has no answer.
+// The ray at (x, y) of the picture, in normalised device coordinates: from the point that m takes (x, y, 1) to, towards that of (x, y, −1); none where one of them has no answer.
 #[tactic(auto, unfolding(crate::specs::Pixel::ray_at, crate::specs::Pixel::ray_between))]
 pub fn ray_at(m: &[f32; 16], x: f32, y: f32) -> Option<Ray>
     ensures { pixel_ray_of result ≡ pixel.ray_at m.now x y }
@@ -101,6 +102,7 @@ pub fn ray_at(m: &[f32; 16], x: f32, y: f32) -> Option<Ray>
     Some(Ray { org, dir })
 }
 
+// A vector upright on the plane of three corners; its length is the doubled area of the triangle.
 #[tactic(auto, unfolding(crate::specs::Plane::normal))]
 fn normal(p: Triangle<Vec3>) -> Vec3
     ensures { point3 result ≡ plane.normal floats (corners_of p) }
@@ -116,6 +118,7 @@ fn hit(p0: Vec3, n: Vec3, r: Ray) -> Vec3
     along3(r, dot3(minus3(p0, r.org), n) / dot3(r.dir, n))
 }
 
+// The weight, without a unit, of a corner at q: the doubled area of q, p1, p2 over that of the three corners, whose normal is n.
 #[tactic(auto, unfolding(crate::specs::Plane::weight))]
 fn weight(n: Vec3, q: Vec3, p1: Vec3, p2: Vec3) -> f32
     ensures { result ≡ plane.weight floats (point3 n) (point3 q) (point3 p1) (point3 p2) }
@@ -123,6 +126,7 @@ fn weight(n: Vec3, q: Vec3, p1: Vec3, p2: Vec3) -> f32
     dot3(cross3(minus3(p1, q), minus3(p2, q)), n) / dot3(n, n)
 }
 
+// The three weights of a point q of the plane.
 #[tactic(auto, unfolding(crate::specs::Plane::weights_at))]
 fn weights_at(p: Triangle<Vec3>, n: Vec3, q: Vec3) -> Weights
     ensures { weights_of result ≡ plane.weights_at floats (corners_of p) (point3 n) (point3 q) }
