@@ -86,14 +86,6 @@ module _ {tri map : List ℕ} {xyz : List Float} {w h : ℕ} (s : SoundMap tri x
   pixel-named : (p : ℕ) → names_face (length tri / 3) (entry_at map p) ≡ true
   pixel-named p = every_any (names_face (length tri / 3)) empty (empty-named (length tri / 3)) map s.named p
 
-  -- what the entries of a pair name
-  module _ {e : Edge} {r : Pair} (k : PairAt map w h e r) where
-    pub first-named : names_face (length tri / 3) r.first ≡ true
-    first-named = rw k.first_entry (pixel-named _)
-
-    pub second-named : names_face (length tri / 3) r.second ≡ true
-    second-named = rw k.second_entry (pixel-named _)
-
   -- where every vertex has a projection, question 8 is answered yes at every pair
   module _ (m : List Float) (yes : all_project m xyz ≡ true) where
     pixel-projects : (p : ℕ) → projects m xyz ((view_of tri map).at p) ≡ true
