@@ -42,6 +42,7 @@ pub fn sqrt_f32(x: f32) -> f32
     f32::from_bits(root_pattern(b as u64, BINARY32) as u32)
 }
 
+// The same of an f64. The tests are written out for each format, as they speak of its patterns; what follows them is one function.
 pub fn sqrt_f64(x: f64) -> f64
     ensures { SquareRoot binary64 x result }
 {
