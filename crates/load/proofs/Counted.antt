@@ -25,11 +25,6 @@ module _ (sc : Scene) where
   unfolding together
   none_yet fs = record { is = ap₂ load (zero-add (load_of sc fs).pieces) (zero-add (load_of sc fs).pixels); few = omega arith; fits = omega arith }
 
-  -- what the pieces of a face are charged, as the code has found them
-  pub charged_most : (f : Face) {ps : List Piece} {c : ℕ} → ps ≡ face_pieces sc f → c ≡ length ps → c ≤ 2
-  unfolding charge
-  charged_most f own e = let charged : _ ≡ charge sc f = e ∙ ap length own in omega (arith, charged, charge_most sc f)
-
   -- face i by its pieces
   pub one_more :
       (tri : List ℕ) {i pieces pixels c n : ℕ} {ps : List Piece}

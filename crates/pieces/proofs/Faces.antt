@@ -1,4 +1,5 @@
 -- The pieces of a face, by what its corners project to.
+use Prim.Native.Nat.{ℕ}
 use mathlib.Core.Path.{◌≡◌, refl, ◌∙◌}
 use mathlib.Core.Option.{Option, none, some}
 use mathlib.Core.List.{List, []}
@@ -10,7 +11,6 @@ use Rattle.meshes.specs.Mesh.{Face, all_three, project_face}
 use Rattle.rules.specs.declared.Facing.{Facing}
 use Rattle.rules.specs.Piece.{Corner, Piece, scored, corners_pieces, pieces, projected_pieces}
 use Rattle.rules.specs.Offers.{scene, face_pieces}
-use Prim.Native.Nat.{ℕ}
 
 -- a corner has no projection
 missing : (t11 : Float) (a b c : Option (Projected Float)) → none ≡ all_three a b c → [] ≡ projected_pieces t11 a b c
