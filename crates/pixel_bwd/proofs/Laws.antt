@@ -1,11 +1,10 @@
 -- Places and sums of one pixel.
-use Rattle.std.specs.Prelude.{ℕ, ◌+◌, ◌*◌, ◌/◌, ◌<◌, ◌≤◌, ◌≡◌, List, ◌++◌, Float}
-use Rattle.std.proofs.Common.{mul-le-mul_right, div-mul-le_self, ◌∙◌, arith}
+use Rattle.std.specs.Prelude.{ℕ, ◌+◌, ◌*◌, ◌/◌, ◌<◌, ◌≤◌, List, Float}
+use Rattle.std.proofs.Common.{mul-le-mul_right, div-mul-le_self, arith}
 use Rattle.geometry.specs.Arith.{floats}
 use Rattle.geometry.specs.Vector.{Weights}
 use Rattle.meshes.specs.Mesh.{Face}
-use Rattle.meshes.specs.Sums.{Addition, summed}
-use Rattle.meshes.specs.Laws.{summed-append}
+use Rattle.meshes.specs.Sums.{Addition}
 use Rattle.pixel_bwd.specs.Additions.{to_corners}
 
 -- number j of the v-th of n each
@@ -13,10 +12,6 @@ pub place_there : (v n j len : ℕ) → v < len / n → j < n → v * n + j < le
 place_there v n j len h l =
     let below : (v + 1) * n ≤ len / n * n = mul-le-mul_right n (omega arith) in
     omega (arith, below, div-mul-le_self len n)
-
--- three lists of additions, one after the other
-pub summed_three : (s : List Float) (x y z : List Addition) → summed s (x ++ (y ++ z)) ≡ summed (summed (summed s x) y) z
-summed_three s x y z = summed-append s x (y ++ z) ∙ summed-append (summed s x) y z
 
 -- what channel j adds to the values
 abbrev pub turn : ℕ → Face → (ℕ → Float) → Weights Float → ℕ → List Addition

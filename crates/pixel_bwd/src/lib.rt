@@ -44,6 +44,7 @@ fn add_three(sums: &mut [f32], n: usize, f: Face, j: usize, x0: f32, x1: f32, x2
 }
 
 // Each corner's share, axis by axis.
+#[tactic(auto, unfolding(crate::specs::Additions::to_xyz, meshes::specs::Sums::summed))]
 fn add_shares(dxyz: &mut [f32], f: Face, to: Triangle<Vec3>)
     requires { Among (length dxyz.old / 3) (face_of f) }
     ensures { dxyz.new ≡ summed dxyz.old (to_xyz (face_of f) (corners_of to)) }
