@@ -2,11 +2,14 @@
 // pixel its row and column, the number of the face it shows, and its depth's bits.
 #![tactic(auto)]
 
+use questions::Refusal;
 use std::io;
 
 const WIDTH: usize = 2;
 
 const HEIGHT: usize = 2;
+
+const PIXELS: usize = 4;
 
 const ALL_FACES: u32 = 0;
 
@@ -22,51 +25,44 @@ const VTX2XYZ: [f32; 18] = [
 
 const TRI2VTX: [u32; 6] = [0, 1, 2, 3, 4, 5];
 
-fn print_pixel(
-    rt: &impl Print,
-    row: usize,
-    column: usize,
-    number: u32,
-    depth: f32,
-) -> io::Result<()> {
-    let bits = words::of_f32(depth);
-    println!(rt; "(pixel ({row} {column}) ({number} {bits:08x}))")
+// The picture on a layer of its own: its map and its depths.
+fn draw(pix2tri: &mut [u32; PIXELS], pix2depth: &mut [f32; PIXELS]) -> Result<(), Refusal> {
+    let mut pix2weights = [0.0; 3 * PIXELS];
+    layers::clear(pix2tri, pix2depth, &mut pix2weights, WIDTH, HEIGHT)?;
+    drawing::pix2tri_by_rasterization(
+        pix2tri,
+        pix2depth,
+        &mut pix2weights,
+        &TRI2VTX,
+        &VTX2XYZ,
+        WIDTH,
+        HEIGHT,
+        &IDENTITY,
+        0,
+        ALL_FACES,
+    )
 }
 
-fn print_pixels(rt: &impl Print, pix2tri: &[u32; 4], pix2depth: &[f32; 4]) -> io::Result<()> {
-    let mut p: usize = 0;
-    while p < 4 {
-        print_pixel(rt, p / WIDTH, p % WIDTH, pix2tri[p], pix2depth[p])?;
-        p += 1;
+fn print_pixels(
+    rt: &impl Print,
+    pix2tri: &[u32; PIXELS],
+    pix2depth: &[f32; PIXELS],
+) -> io::Result<()> {
+    for p in 0..PIXELS {
+        let row = p / WIDTH;
+        let column = p % WIDTH;
+        let number = pix2tri[p];
+        let bits = words::of_f32(pix2depth[p]);
+        println!(rt; "(pixel ({row} {column}) ({number} {bits:08x}))")?;
     }
     Ok(())
 }
 
 fn main(rt: HostRuntime) -> io::Result<()> {
-    let tri2vtx = TRI2VTX;
-    let vtx2xyz = VTX2XYZ;
-    let matrix = IDENTITY;
-    let mut pix2tri = [0u32; 4];
-    let mut pix2depth = [0.0f32; 4];
-    let mut pix2weights = [0.0f32; 12];
-    layers::clear(
-        &mut pix2tri,
-        &mut pix2depth,
-        &mut pix2weights,
-        WIDTH,
-        HEIGHT,
-    );
-    drawing::pix2tri_by_rasterization(
-        &mut pix2tri,
-        &mut pix2depth,
-        &mut pix2weights,
-        &tri2vtx,
-        &vtx2xyz,
-        WIDTH,
-        HEIGHT,
-        &matrix,
-        0,
-        ALL_FACES,
-    );
-    print_pixels(&rt, &pix2tri, &pix2depth)
+    let mut pix2tri = [0; PIXELS];
+    let mut pix2depth = [0.0; PIXELS];
+    match draw(&mut pix2tri, &mut pix2depth) {
+        Ok(()) => print_pixels(&rt, &pix2tri, &pix2depth),
+        Err(refusal) => println!(rt; "{refusal}"),
+    }
 }
