@@ -264,4 +264,4 @@ module _ (tri names : List ℕ) (v k : ℕ) (h : k < 3) (mat xyz : List Float) (
     where
       axis_avoid : edges.bwd_code tri names height (edge_view (view_of tri names) mat xyz w) vals dxyz ≡ 0 → (a : Axis) → Avoids (v * 3 + k) (axis_additions a height (edge_view (view_of tri names) mat xyz w) vals)
       axis_avoid e a =
-          avoids_all (v * 3 + k) _ _ (λ j m. pair_avoid (unseen tri names v free (edges_laws.bwd_accepted tri names height _ vals dxyz e).image.named) a (edge_down a height j))
+          avoids_all (v * 3 + k) _ _ (λ j m. pair_avoid (unseen tri names v free (edges_laws.bwd_accepted tri names height _ vals dxyz (sym e)).image.named) a (edge_down a height j))
