@@ -1,7 +1,6 @@
 -- An accepted mesh, thinned and cut: every run of it is accepted.
 use Rattle.std.specs.Prelude.{ℕ, zero, suc, ◌+◌, ◌/◌, ◌<◌, ◌≤◌, ◌≡◌, refl, Bool, true, false, cond, ◌&&◌, List, [], ◌∷◌, ◌++◌, ltb, length, take, get_or}
 use Rattle.std.proofs.Common.{ap, sym, ◌∙◌, not-suc-le-zero, le_of_suc-le-suc, arith, length-append}
-use Rattle.lists.specs.Lists.{every}
 use Rattle.lists.specs.Laws.Tests.{both}
 use Rattle.questions.specs.Questions.{sizes, groups, slices, numbers, all_below, most_count}
 use Rattle.questions.specs.Laws.{accepted, grouped, whole}

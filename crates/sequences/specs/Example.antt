@@ -2,7 +2,7 @@
 use Rattle.std.specs.Prelude.{ℕ, List, [], ◌∷◌, ◌++◌, Float}
 use Rattle.std.specs.Float.{binary32}
 use Rattle.std.specs.Float.Ieee.{of_bits, of_int, add, sub, mul, div, neg, lt, le, eq}
-use Rattle.lists.specs.Lists.{tabulate, every}
+use Rattle.lists.specs.Lists.{tabulate}
 use Rattle.questions.specs.Questions.{Outcome, empty, first_no, sizes, groups, numbers, exact}
 use Rattle.offers.specs.Offer.{lowest, renamed, offered, pick, exceeds}
 use Rattle.offers.specs.Offers as any
