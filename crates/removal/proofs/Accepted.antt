@@ -1,11 +1,15 @@
 -- What an accepted call of `preview_removal` knows, and the outcome of a refused and of an accepted one.
 use Prim.Native.Nat.{ℕ, ◌*◌, ◌/◌, ◌≤◌}
-use mathlib.Core.Path.{◌≡◌, ap, ap₂, sym, ◌∙◌}
+use mathlib.Core.Path.{◌≡◌, refl, ap, ap₂, sym, ◌∙◌}
 use mathlib.Core.List.{List, []}
 use native.Mathlib.Omega.{arith}
 use lib.ListN.{length}
 use lib.Ieee.{Float}
-use Rattle.questions.specs.Questions.{Outcome, outcome, most_count}
+use Rattle.std.specs.Prelude.{Ok, Err}
+use Rattle.questions.specs.declared.Refusal.{Refusal}
+use Rattle.questions.specs.Answer.{code_of}
+use Rattle.questions.proofs.Laws.Refusals.{never_accepted}
+use Rattle.questions.specs.Questions.{outcome, most_count}
 use Rattle.questions.specs.Laws.{Sized, sized, grouped, call_refused, call_done}
 use Rattle.offers.specs.Thinning.{kept_from}
 use Rattle.cells.specs.Layer.{Layer}
@@ -17,15 +21,17 @@ use Rattle.rules.specs.declared.Facing.TheVariants.{All}
 use Rattle.rules.specs.Offers.{Scene, scene}
 use Rattle.sequences.specs.Whole.{fresh}
 use Rattle.sequences.proofs.Whole.{fresh-spans}
-use Rattle.removal_rules.specs.Removal.{kept_by, preview, counted, Previewed, previewed, compared, removal_code, previewing}
+use Rattle.removal_counts.specs.Answer.{answered}
+use Rattle.removal_rules.specs.Removal as rule
+use Rattle.removal_rules.specs.Removal.{kept_by, preview, counted, previewed, compared, removal_code, previewing}
 use Rattle.removal_rules.proofs.Laws.Drawings.{asked, full-drawn, short_drawn}
 use Rattle.removal_rules.specs.Matched.{Matched}
 use Rattle.removal_rules.proofs.Laws.Pixels.{keep-empty, drawings_match}
 
 module _ (tri : List ℕ) (xyz : List Float) (w h : ℕ) (removed : List ℕ) (full short : Layer) where
-  pub refused : (m : List Float) {code : ℕ} → code ≡ removal_code tri xyz w h removed full short → (code ≡ 0 → ⊥) → outcome code (previewed (preview 0 0 0) full short) ≡ previewing tri xyz w h m removed full short
+  pub refused : (m : List Float) (r : Refusal) → code_of (Err r) ≡ removal_code tri xyz w h removed full short → answered (Err r) full short ≡ previewing tri xyz w h m removed full short
   unfolding previewing
-  refused m e no0 = call_refused _ e no0
+  refused m r e = call_refused _ e (never_accepted r)
 
   module _ (accepted : removal_code tri xyz w h removed full short ≡ 0) where
     mesh : SoundMesh tri xyz × (length tri / 3 ≤ most_count)
@@ -52,7 +58,7 @@ module _ (tri : List ℕ) (xyz : List Float) (w h : ℕ) (removed : List ℕ) (f
         pixels = rw drew (fresh-spans sc (faces_of tri) 0).numbers
 
         -- the two maps may be compared by the marks
-        pub ready : (length short'.pix2tri ≡ length full'.pix2tri) × Matched (kept_by removed) full'.pix2tri short'.pix2tri (length full'.pix2tri)
+        ready : (length short'.pix2tri ≡ length full'.pix2tri) × Matched (kept_by removed) full'.pix2tri short'.pix2tri (length full'.pix2tri)
         ready =
             let few = mesh.1 in
             let marks = (asked tri xyz w h removed full short accepted).marks in
@@ -61,13 +67,16 @@ module _ (tri : List ℕ) (xyz : List Float) (w h : ℕ) (removed : List ℕ) (f
               drawings_match sc (faces_of tri) (kept_by removed) (omega (arith, length-faces tri)) (keep-empty removed (omega arith)),
             )
 
-        pub done : {code : ℕ} {o : Outcome Previewed} → code ≡ removal_code tri xyz w h removed full short → code ≡ 0
-            → o ≡ outcome 0 (previewed (counted (kept_by removed) full'.pix2tri short'.pix2tri (length full'.pix2tri)) full' short')
-            → o ≡ previewing tri xyz w h m removed full short
+        pub matched : Matched (kept_by removed) full'.pix2tri short'.pix2tri (length full'.pix2tri)
+        matched = ready.1
+
+        pub done : {counts : rule.Preview} → code_of (Ok tt) ≡ removal_code tri xyz w h removed full short
+            → counts ≡ counted (kept_by removed) full'.pix2tri short'.pix2tri (length full'.pix2tri)
+            → outcome 0 (previewed counts full' short') ≡ previewing tri xyz w h m removed full short
         unfolding previewing compared
-        done e zero0 counts =
+        done e same =
             let a = asked tri xyz w h removed full short accepted in
-            counts
+            ap (λ (p : rule.Preview). outcome 0 (previewed p full' short')) same
             ∙ ap (λ (n : ℕ). outcome 0 (previewed (counted (kept_by removed) full'.pix2tri short'.pix2tri n) full' short')) pixels
-            ∙ call_done (previewed (preview 0 0 0) full short) e zero0
+            ∙ call_done (previewed (preview 0 0 0) full short) e refl
             (ap₂ (compared (w * h) (kept_by removed)) (drew ∙ sym (full-drawn a m)) (drew-short ∙ sym (short_drawn a m)))
