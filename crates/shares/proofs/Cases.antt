@@ -7,16 +7,23 @@ use mathlib.Core.List.{List, [], ◌∷◌, ◌++◌, flat_map, append-nil}
 use lib.Ieee.{Float}
 use Rattle.geometry.specs.Vector.{Vec2, Vec3, Projected, Triangle}
 use Rattle.meshes.specs.Mesh.{Face}
-use Rattle.meshes.specs.Sums.{Addition}
+use Rattle.geometry.specs.Answer.{point2}
+use Rattle.meshes.specs.Answer.{maybe_face}
+use Rattle.meshes.specs.Sums.{Addition, summed}
+use Rattle.pixels.specs.Edge.{Axis, Edge}
+use Rattle.pairs.specs.Pairs.{EdgeView}
+use Rattle.pairs.specs.Gradient.{PixelValues, dldr}
+use Rattle.share_rules.specs.Unequal.{UnequalAt}
+use Rattle.share_rules.specs.declared.Unequal.{Unequal}
 use Rattle.inside.specs.Inside.{all_inside, contains, weights_in}
 use Rattle.tris.specs.Tri.{unormal, TriOf}
 use Rattle.tris.specs.Laws.{inside_is}
 use Rattle.crossings.specs.Crossing.{along, skipped, coefficient0, coefficient1, g_pix}
 use Rattle.scattering.specs.Scattering.{given}
-use Rattle.share_rules.specs.Shares.{Share, share, crossing, between}
+use Rattle.share_rules.specs.Shares.{Share, share, crossing, between, shares_at}
 use Rattle.share_rules.specs.Steps.{beside_empty}
 use Rattle.share_rules.specs.Laws.{both_empty, both_contain, second-contains, first-contains, neither_contains}
-use Rattle.share_rules.specs.Additions.{additions_of}
+use Rattle.share_rules.specs.Additions.{additions_of, pair_additions}
 use Rattle.shares.specs.Steps.{given_both, given_crossing}
 
 module _ {m xyz : List Float} {f : Face} {x : Triangle (Vec3 Float)} {t : Triangle (Projected Float)} (o : TriOf m xyz f x t) where
@@ -81,3 +88,16 @@ module _ (axis : ℕ) (m xyz : List Float) (f0 f1 : Face) (q0 q1 : Vec2 Float) (
     pub none_added : contains all_inside m xyz (some f0) q1 ≡ false → Added []
     unfolding flat_map
     none_added q = rw (neither_contains axis m xyz f0 f1 q0 q1 p q)
+
+-- ---- a pair of the map
+
+module _ (a : Axis) (s : EdgeView) (v : PixelValues) (e : Edge) where
+  pub equal_adds : (sums : List Float) → shares_at a s e ≡ [] → sums ≡ summed sums (pair_additions a s v e)
+  unfolding pair_additions flat_map summed
+  equal_adds sums k = rw k
+
+  pub unequal_adds : {h : ℕ} {r : Unequal} → UnequalAt a s h e r
+      → pair_additions a s v e
+      ≡ flat_map (additions_of s.matrix s.vertices (dldr v r.p r.q)) (between a.down s.matrix s.vertices (maybe_face r.first) (maybe_face r.second) (point2 r.q0) (point2 r.q1))
+  unfolding pair_additions
+  unequal_adds k = rw (k.p_number, k.q_number, k.shares)

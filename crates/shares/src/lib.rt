@@ -19,10 +19,9 @@ ghost use Rattle.share_rules.specs.Steps.{beside_empty};
 ghost use Rattle.shares.specs.Steps.{given_crossing};
 
 use geometry::Vec2;
-use meshes::Face;
 use pairs::PixelValues;
 use pixels::{Axis, Pixel};
-use share_rules::{AxisPairs, Side};
+use share_rules::{AxisPairs, Side, Unequal};
 use tris::Tri;
 
 // An intersection's two shares, each from its own `Tri` and centre.
@@ -96,24 +95,18 @@ fn scatter_between(sums: &mut [f32], pairs: &AxisPairs, first: Side, second: Sid
     }
 }
 
-// What two pixels show whose entries are not equal, and their centres.
+// A pair whose entries are not equal.
 #[tactic(auto, using(crate::proofs::Cases::nothing_added, share_rules::specs::Laws::after_empty, share_rules::specs::Laws::before_empty), unfolding(meshes::specs::Sums::summed))]
-fn scatter_unequal(
-    sums: &mut [f32],
-    pairs: &AxisPairs,
-    first: Option<Face>,
-    second: Option<Face>,
-    q0: Vec2,
-    q1: Vec2,
-    d: f32,
-)
-    requires first { IfSome first (λ f. Projects pairs.now.view.m.now pairs.now.view.mesh.vtx2xyz.now (face_of f)) }
-    requires second { IfSome second (λ f. Projects pairs.now.view.m.now pairs.now.view.mesh.vtx2xyz.now (face_of f)) }
+fn scatter_unequal(sums: &mut [f32], pairs: &AxisPairs, pair: Unequal, d: f32)
+    requires first { IfSome pair.first (λ f. Projects pairs.now.view.m.now pairs.now.view.mesh.vtx2xyz.now (face_of f)) }
+    requires second { IfSome pair.second (λ f. Projects pairs.now.view.m.now pairs.now.view.mesh.vtx2xyz.now (face_of f)) }
     requires lent { length sums.old ≡ length pairs.now.view.mesh.vtx2xyz.now }
     ensures { sums.new ≡ summed sums.old (flat_map (additions_of pairs.now.view.m.now pairs.now.view.mesh.vtx2xyz.now d)
-        (between pairs.now.axis.down pairs.now.view.m.now pairs.now.view.mesh.vtx2xyz.now (maybe_face first) (maybe_face second) (point2 q0) (point2 q1))) }
+        (between pairs.now.axis.down pairs.now.view.m.now pairs.now.view.mesh.vtx2xyz.now (maybe_face pair.first) (maybe_face pair.second)
+        (point2 pair.q0) (point2 pair.q1))) }
 {
-    match (first, second) {
+    let Unequal { q0, q1, .. } = pair;
+    match (pair.first, pair.second) {
         (Some(f0), Some(f1)) => {
             let first = Side {
                 face: f0,
@@ -136,6 +129,7 @@ fn scatter_unequal(
 }
 
 // What the pair whose first pixel is p adds.
+#[tactic(auto, using(crate::proofs::Cases::equal_adds))]
 pub fn scatter_pair(sums: &mut [f32], pairs: &AxisPairs, values: &PixelValues, p: Pixel)
     requires within { Within pairs.now.view.size.w pairs.now.view.size.h pairs.now.axis.right pairs.now.axis.down p.x p.y }
     requires pixels { values.now.pixels ≡ pairs.now.view.size.w * pairs.now.view.size.h }
@@ -143,14 +137,8 @@ pub fn scatter_pair(sums: &mut [f32], pairs: &AxisPairs, values: &PixelValues, p
     ensures { sums.new
         ≡ summed sums.old (pair_additions (axis_of pairs.now.axis) (seen_of pairs.now.view) (values_of values.now) (edge_of pairs.now.axis p)) }
 {
-    let pair = pairs::pair_at(&pairs.view, p, pairs.axis);
-    if pair.first == pair.second {
+    let Some(pair) = pairs.unequal(p) else {
         return;
-    }
-    let first = pairs.view.mesh.named(pair.first);
-    let second = pairs.view.mesh.named(pair.second);
-    let q0 = pixels::centre_of(p);
-    let q1 = pixels::centre_of(pairs::neighbour(p, pairs.axis));
-    let d = values.dldr(pair.p, pair.q);
-    scatter_unequal(sums, pairs, first, second, q0, q1, d);
+    };
+    scatter_unequal(sums, pairs, pair, values.dldr(pair.p, pair.q));
 }

@@ -8,7 +8,11 @@ use lib.Ieee.{Float}
 use Rattle.geometry.specs.Vector.{Vec2, Vec3, Projected, Triangle}
 use Rattle.meshes.specs.Mesh.{Face}
 use Rattle.lists.specs.Lists.{span, every}
-use Rattle.pixels.specs.Edge.{Axis, rows}
+use Rattle.geometry.specs.Answer.{point2}
+use Rattle.meshes.specs.Answer.{maybe_face}
+use Rattle.share_rules.specs.Unequal.{UnequalAt}
+use Rattle.share_rules.specs.declared.Unequal.{Unequal}
+use Rattle.pixels.specs.Edge.{Axis, Edge, rows}
 use Rattle.inside.specs.Inside.{all_inside, contains, present, weights_in}
 use Rattle.pairs.specs.Pairs.{EdgeView}
 use Rattle.pairs.specs.Steps.{row_passes}
@@ -18,7 +22,7 @@ use Rattle.tris.specs.Weights.{world_in}
 use Rattle.tris.specs.Tri.{unormal, TriOf}
 use Rattle.tris.specs.Laws.{inside_is, world_is}
 use Rattle.crossings.specs.Crossing.{along, skipped, coefficient0, coefficient1, g_pix}
-use Rattle.share_rules.specs.Shares.{Share, share, crossing, between}
+use Rattle.share_rules.specs.Shares.{Share, share, crossing, between, shares_at}
 use Rattle.share_rules.specs.Laws.{both_empty, after_empty, before_empty, both_contain, second-contains, first-contains, neither_contains}
 use Rattle.share_rules.specs.Steps.{beside_empty}
 use Rattle.unwraps.specs.Unwraps.{weighable, weighable_all, unwraps, all_unwraps}
@@ -91,6 +95,18 @@ module _ {m xyz : List Float} {f0 f1 : Face} {x0 x1 : Triangle (Vec3 Float)} {t0
   pub none_inside : all_inside (weights_in q0 (some t1)) ≡ false → all_inside (weights_in q1 (some t0)) ≡ false → Weighed true
   unfolding weighable_all
   none_inside p q = rw (neither_contains axis m xyz f0 f1 q0 q1 (inside_is o1 q0 ∙ p) (inside_is o0 q1 ∙ q))
+
+-- ---- a pair of the map
+
+module _ (a : Axis) (s : EdgeView) (e : Edge) where
+  pub equal_unwraps : shares_at a s e ≡ [] → unwraps a s e ≡ true
+  unfolding unwraps weighable_all
+  equal_unwraps k = rw k
+
+  pub unequal_unwraps : {h : ℕ} {r : Unequal} → UnequalAt a s h e r
+      → unwraps a s e ≡ weighable_all s.matrix s.vertices (between a.down s.matrix s.vertices (maybe_face r.first) (maybe_face r.second) (point2 r.q0) (point2 r.q1))
+  unfolding unwraps
+  unequal_unwraps k = rw k.shares
 
 -- ---- every pair of an axis, row by row
 

@@ -18,9 +18,9 @@ ghost use Rattle.unwraps.specs.Unwraps.{weighable_all, unwraps, all_unwraps, bot
 ghost use Rattle.unwraps.specs.Steps.{crossing_answered};
 
 use geometry::Vec2;
-use meshes::{Face, View};
+use meshes::View;
 use pixels::{Axis, Pixel};
-use share_rules::{AxisPairs, Side};
+use share_rules::{AxisPairs, Side, Unequal};
 use tris::Tri;
 
 // Have both faces their weights?
@@ -66,21 +66,17 @@ fn between_ok(pairs: &AxisPairs, first: Side, second: Side) -> bool
     }
 }
 
-// Question 9 of what two pixels show whose entries are not equal, and of their centres.
+// Question 9 of a pair whose entries are not equal.
 #[tactic(auto, using(crate::proofs::Cases::nothing_weighs, crate::proofs::Cases::after_weighs, crate::proofs::Cases::before_weighs))]
-fn unequal_ok(
-    pairs: &AxisPairs,
-    first: Option<Face>,
-    second: Option<Face>,
-    q0: Vec2,
-    q1: Vec2,
-) -> bool
-    requires first { IfSome first (λ f. Projects pairs.now.view.m.now pairs.now.view.mesh.vtx2xyz.now (face_of f)) }
-    requires second { IfSome second (λ f. Projects pairs.now.view.m.now pairs.now.view.mesh.vtx2xyz.now (face_of f)) }
+fn unequal_ok(pairs: &AxisPairs, pair: Unequal) -> bool
+    requires first { IfSome pair.first (λ f. Projects pairs.now.view.m.now pairs.now.view.mesh.vtx2xyz.now (face_of f)) }
+    requires second { IfSome pair.second (λ f. Projects pairs.now.view.m.now pairs.now.view.mesh.vtx2xyz.now (face_of f)) }
     ensures { result ≡ weighable_all pairs.now.view.m.now pairs.now.view.mesh.vtx2xyz.now
-        (between pairs.now.axis.down pairs.now.view.m.now pairs.now.view.mesh.vtx2xyz.now (maybe_face first) (maybe_face second) (point2 q0) (point2 q1)) }
+        (between pairs.now.axis.down pairs.now.view.m.now pairs.now.view.mesh.vtx2xyz.now (maybe_face pair.first) (maybe_face pair.second)
+        (point2 pair.q0) (point2 pair.q1)) }
 {
-    match (first, second) {
+    let Unequal { q0, q1, .. } = pair;
+    match (pair.first, pair.second) {
         (Some(f0), Some(f1)) => {
             let first = Side {
                 face: f0,
@@ -99,19 +95,15 @@ fn unequal_ok(
 }
 
 // Question 9 of the pair whose first pixel is p.
+#[tactic(auto, using(crate::proofs::Cases::equal_unwraps))]
 fn pair_ok(pairs: &AxisPairs, p: Pixel) -> bool
     requires { Within pairs.now.view.size.w pairs.now.view.size.h pairs.now.axis.right pairs.now.axis.down p.x p.y }
     ensures { result ≡ unwraps (axis_of pairs.now.axis) (seen_of pairs.now.view) (edge_of pairs.now.axis p) }
 {
-    let pair = pairs::pair_at(&pairs.view, p, pairs.axis);
-    if pair.first == pair.second {
-        return true;
+    match pairs.unequal(p) {
+        Some(pair) => unequal_ok(pairs, pair),
+        None => true,
     }
-    let first = pairs.view.mesh.named(pair.first);
-    let second = pairs.view.mesh.named(pair.second);
-    let q0 = pixels::centre_of(p);
-    let q1 = pixels::centre_of(pairs::neighbour(p, pairs.axis));
-    unequal_ok(pairs, first, second, q0, q1)
 }
 
 // Question 9 of the pairs whose first pixels lie in row y.
