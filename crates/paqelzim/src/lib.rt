@@ -12,7 +12,7 @@ ghost use Rattle.layers.specs.Calls.{clearing, joining};
 ghost use Rattle.meshes.specs.View.{view_of};
 ghost use Rattle.rules.specs.Calls.{draws};
 ghost use Rattle.rules.specs.Load.{loading};
-ghost use Rattle.load.specs.Answer.{answered};
+ghost use Rattle.load.specs.Answer.{answered_in_c};
 ghost use Rattle.removal_rules.specs.Removal.{previewing};
 ghost use Rattle.removal_counts.specs.Answer as removal;
 ghost use Rattle.labels.specs.Labels.{labelling};
@@ -28,6 +28,7 @@ ghost use Rattle.edges.specs.Calls.{edge_buffers, edge_typing};
 ghost use Rattle.edge_bwd.specs.Calls.{edge_bwd};
 ghost use Rattle.velocity.specs.Calls.{velocities};
 
+use cells::Layer;
 use load::DrawingLoad;
 use removal_counts::RemovalPreview;
 
@@ -40,7 +41,7 @@ pub fn paqelzim_clear(
 ) -> u32
     ensures { outcome result (layer pix2tri.new pix2depth.new pix2weights.new) ≡ clearing (layer pix2tri.old pix2depth.old pix2weights.old) img_w img_h }
 {
-    layers::clear(pix2tri, pix2depth, pix2weights, img_w, img_h)
+    questions::code(layers::clear(pix2tri, pix2depth, pix2weights, img_w, img_h))
 }
 
 pub fn paqelzim_pix2tri_by_rasterization(
@@ -58,7 +59,7 @@ pub fn paqelzim_pix2tri_by_rasterization(
     ensures { outcome result (layer pix2tri.new pix2depth.new pix2weights.new)
         ≡ draws (layer pix2tri.old pix2depth.old pix2weights.old) tri2vtx.now vtx2xyz.now img_w img_h transform_world2ndc.now first facing }
 {
-    drawing::pix2tri_by_rasterization(
+    questions::code(drawing::pix2tri_by_rasterization(
         pix2tri,
         pix2depth,
         pix2weights,
@@ -69,7 +70,7 @@ pub fn paqelzim_pix2tri_by_rasterization(
         transform_world2ndc,
         first,
         facing,
-    )
+    ))
 }
 
 pub fn paqelzim_drawing_load(
@@ -79,9 +80,9 @@ pub fn paqelzim_drawing_load(
     img_h: usize,
     transform_world2ndc: &[f32; 16],
 ) -> DrawingLoad
-    ensures { answered result ≡ loading tri2vtx.now vtx2xyz.now img_w img_h transform_world2ndc.now }
+    ensures { answered_in_c result ≡ loading tri2vtx.now vtx2xyz.now img_w img_h transform_world2ndc.now }
 {
-    load::drawing_load(tri2vtx, vtx2xyz, img_w, img_h, transform_world2ndc)
+    DrawingLoad::from(load::drawing_load(tri2vtx, vtx2xyz, img_w, img_h, transform_world2ndc))
 }
 
 pub fn paqelzim_preview_removal(
@@ -98,13 +99,13 @@ pub fn paqelzim_preview_removal(
     short_pix2depth: &mut [f32],
     short_pix2weights: &mut [f32],
 ) -> RemovalPreview
-    ensures { removal.answered result (layer full_pix2tri.new full_pix2depth.new full_pix2weights.new)
+    ensures { removal.answered_in_c result (layer full_pix2tri.new full_pix2depth.new full_pix2weights.new)
         (layer short_pix2tri.new short_pix2depth.new short_pix2weights.new)
         ≡ previewing tri2vtx.now vtx2xyz.now img_w img_h transform_world2ndc.now removed.now
         (layer full_pix2tri.old full_pix2depth.old full_pix2weights.old)
         (layer short_pix2tri.old short_pix2depth.old short_pix2weights.old) }
 {
-    removal::preview_removal(
+    RemovalPreview::from(removal::preview_removal(
         tri2vtx,
         vtx2xyz,
         img_w,
@@ -117,7 +118,7 @@ pub fn paqelzim_preview_removal(
         short_pix2tri,
         short_pix2depth,
         short_pix2weights,
-    )
+    ))
 }
 
 pub fn paqelzim_join(
@@ -134,16 +135,19 @@ pub fn paqelzim_join(
         ≡ joining (layer left_pix2tri.old left_pix2depth.old left_pix2weights.old)
         (layer right_pix2tri.now right_pix2depth.now right_pix2weights.now) img_w img_h }
 {
-    layers::join(
+    let right = Layer {
+        pix2tri: right_pix2tri,
+        pix2depth: right_pix2depth,
+        pix2weights: right_pix2weights,
+    };
+    questions::code(layers::join(
         left_pix2tri,
         left_pix2depth,
         left_pix2weights,
-        right_pix2tri,
-        right_pix2depth,
-        right_pix2weights,
+        &right,
         img_w,
         img_h,
-    )
+    ))
 }
 
 pub fn paqelzim_label_picture(
@@ -155,7 +159,7 @@ pub fn paqelzim_label_picture(
 ) -> u32
     ensures { outcome result pix2body.new ≡ labelling pix2tri.now tri2body.now img_w img_h pix2body.old }
 {
-    labels::label_picture(pix2tri, tri2body, img_w, img_h, pix2body)
+    questions::code(labels::label_picture(pix2tri, tri2body, img_w, img_h, pix2body))
 }
 
 pub fn paqelzim_interpolate(
@@ -173,7 +177,7 @@ pub fn paqelzim_interpolate(
         ≡ interpolating (image img_w img_h transform_ndc2world.now) (vertices vtx2xyz.now num_vdim vtx2val.now)
         tri2vtx.now pix2tri.now pix2val.old }
 {
-    values::interpolate(
+    questions::code(values::interpolate(
         img_w,
         img_h,
         pix2tri,
@@ -183,7 +187,7 @@ pub fn paqelzim_interpolate(
         vtx2val,
         transform_ndc2world,
         pix2val,
-    )
+    ))
 }
 
 pub fn paqelzim_interpolate_bwd(
@@ -203,7 +207,7 @@ pub fn paqelzim_interpolate_bwd(
         ≡ interpolating_bwd (image img_w img_h transform_ndc2world.now) (vertices vtx2xyz.now num_vdim vtx2val.now)
         tri2vtx.now pix2tri.now dldw_pix2val.now (sums dldw_vtx2xyz.old dldw_vtx2val.old) }
 {
-    values_bwd::interpolate_bwd(
+    questions::code(values_bwd::interpolate_bwd(
         img_w,
         img_h,
         pix2tri,
@@ -215,7 +219,7 @@ pub fn paqelzim_interpolate_bwd(
         dldw_pix2val,
         dldw_vtx2xyz,
         dldw_vtx2val,
-    )
+    ))
 }
 
 pub fn paqelzim_edge_gradient_and_type(
@@ -239,7 +243,7 @@ pub fn paqelzim_edge_gradient_and_type(
         (pixel_values «pix2val».now dldw_pix2val.now num_vdim)
         (edge_buffers (axis_buffers «hedge2type».old «hedge2dldr».old) (axis_buffers «vedge2type».old «vedge2dldr».old)) }
 {
-    edges::edge_gradient_and_type(
+    questions::code(edges::edge_gradient_and_type(
         tri2vtx,
         vtx2xyz,
         transform_world2pix,
@@ -253,7 +257,7 @@ pub fn paqelzim_edge_gradient_and_type(
         hedge2dldr,
         vedge2type,
         vedge2dldr,
-    )
+    ))
 }
 
 pub fn paqelzim_bwd(
@@ -273,7 +277,7 @@ pub fn paqelzim_bwd(
         (edge_view (view_of «tri2vtx».now «pix2tri».now) transform_world2pix.now «vtx2xyz».now img_w)
         (pixel_values «pix2val».now dldw_pix2val.now num_vdim) dldw_vtx2xyz.old }
 {
-    edge_bwd::bwd(
+    questions::code(edge_bwd::bwd(
         tri2vtx,
         vtx2xyz,
         dldw_vtx2xyz,
@@ -284,7 +288,7 @@ pub fn paqelzim_bwd(
         num_vdim,
         pix2val,
         dldw_pix2val,
-    )
+    ))
 }
 
 pub fn paqelzim_interpolate_from_edges(
@@ -298,7 +302,9 @@ pub fn paqelzim_interpolate_from_edges(
     ensures { outcome result «vtx2velo».new
         ≡ velocities img_w img_h «hedge2vy».now «vedge2vx».now «vtx2xy».now «vtx2velo».old }
 {
-    velocity::interpolate_from_edges(img_w, img_h, hedge2vy, vedge2vx, vtx2xy, vtx2velo)
+    questions::code(velocity::interpolate_from_edges(
+        img_w, img_h, hedge2vy, vedge2vx, vtx2xy, vtx2velo,
+    ))
 }
 
 pub fn paqelzim_sqrt_f32(x: f32) -> f32

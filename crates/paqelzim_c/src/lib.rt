@@ -12,7 +12,7 @@ ghost use Rattle.layers.specs.Calls.{clearing, joining};
 ghost use Rattle.meshes.specs.View.{view_of};
 ghost use Rattle.rules.specs.Calls.{draws};
 ghost use Rattle.rules.specs.Load.{loading};
-ghost use Rattle.load.specs.Answer.{answered};
+ghost use Rattle.load.specs.Answer.{answered_in_c};
 ghost use Rattle.removal_rules.specs.Removal.{previewing};
 ghost use Rattle.removal_counts.specs.Answer as removal;
 ghost use Rattle.labels.specs.Labels.{labelling};
@@ -82,7 +82,7 @@ pub extern "C" fn paqelzim_drawing_load(
     img_h: usize,
     transform_world2ndc: &[f32; 16],
 ) -> DrawingLoad
-    ensures { answered result ≡ loading tri2vtx.now vtx2xyz.now img_w img_h transform_world2ndc.now }
+    ensures { answered_in_c result ≡ loading tri2vtx.now vtx2xyz.now img_w img_h transform_world2ndc.now }
 {
     paqelzim::paqelzim_drawing_load(tri2vtx, vtx2xyz, img_w, img_h, transform_world2ndc)
 }
@@ -102,7 +102,7 @@ pub extern "C" fn paqelzim_preview_removal(
     short_pix2depth: &mut [f32],
     short_pix2weights: &mut [f32],
 ) -> RemovalPreview
-    ensures { removal.answered result (layer full_pix2tri.new full_pix2depth.new full_pix2weights.new)
+    ensures { removal.answered_in_c result (layer full_pix2tri.new full_pix2depth.new full_pix2weights.new)
         (layer short_pix2tri.new short_pix2depth.new short_pix2weights.new)
         ≡ previewing tri2vtx.now vtx2xyz.now img_w img_h transform_world2ndc.now removed.now
         (layer full_pix2tri.old full_pix2depth.old full_pix2weights.old)

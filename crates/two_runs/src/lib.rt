@@ -3,13 +3,17 @@
 
 ghost use Rattle.std.specs.Prelude.{◌≡◌, ◌*◌, ◌/◌, ◌≤◌, length};
 ghost use Rattle.questions.specs.Questions.{outcome};
+ghost use Rattle.questions.specs.Answer.{code_of};
 ghost use Rattle.cells.specs.Layer.{layer};
 ghost use Rattle.cells.specs.Steps.{Spans};
 ghost use Rattle.layers.specs.Calls.{clearing};
 ghost use Rattle.rules.specs.Calls.{draw_code, draws};
 ghost use Rattle.sequences.specs.Whole.{cleared};
 
-// Clears a layer and draws a run of a mesh's faces on it, numbered from `first`.
+use cells::Layer;
+use questions::Refusal;
+
+// Clears a layer and draws a run of a mesh's faces on it, numbered from `first`. A refused call leaves what it was lent, so it is not asked what they answer.
 fn draw_run(
     pix2tri: &mut [u32],
     pix2depth: &mut [f32],
@@ -25,8 +29,8 @@ fn draw_run(
     ensures { layer pix2tri.new pix2depth.new pix2weights.new
         ≡ (draws (clearing (layer pix2tri.old pix2depth.old pix2weights.old) img_w img_h).left tri2vtx.now vtx2xyz.now img_w img_h m.now first facing).left }
 {
-    layers::clear(pix2tri, pix2depth, pix2weights, img_w, img_h);
-    drawing::pix2tri_by_rasterization(
+    let _ = layers::clear(pix2tri, pix2depth, pix2weights, img_w, img_h);
+    let _ = drawing::pix2tri_by_rasterization(
         pix2tri,
         pix2depth,
         pix2weights,
@@ -56,12 +60,12 @@ pub fn draw_in_two_runs(
     transform_world2ndc: &[f32; 16],
     count: usize,
     facing: u32,
-) -> u32
-    requires img_h_value { draw_code (cleared (img_w * img_h)) tri2vtx.now vtx2xyz.now img_w img_h 0 ≡ 0 }
-    requires count_in_bounds { count ≤ length tri2vtx.now / 3 }
-    requires spans { Spans (layer left_pix2tri.old left_pix2depth.old left_pix2weights.old) (img_w * img_h) }
-    requires spans_2 { Spans (layer right_pix2tri.old right_pix2depth.old right_pix2weights.old) (img_w * img_h) }
-    ensures { outcome result (layer left_pix2tri.new left_pix2depth.new left_pix2weights.new)
+) -> Result<(), Refusal>
+    requires accepted { draw_code (cleared (img_w * img_h)) tri2vtx.now vtx2xyz.now img_w img_h 0 ≡ 0 }
+    requires count { count ≤ length tri2vtx.now / 3 }
+    requires left { Spans (layer left_pix2tri.old left_pix2depth.old left_pix2weights.old) (img_w * img_h) }
+    requires right { Spans (layer right_pix2tri.old right_pix2depth.old right_pix2weights.old) (img_w * img_h) }
+    ensures { outcome (code_of result) (layer left_pix2tri.new left_pix2depth.new left_pix2weights.new)
         ≡ draws (cleared (img_w * img_h)) tri2vtx.now vtx2xyz.now img_w img_h transform_world2ndc.now 0 facing }
 {
     let cut = 3 * count;
@@ -89,14 +93,10 @@ pub fn draw_in_two_runs(
         count as u32,
         facing,
     );
-    layers::join(
-        left_pix2tri,
-        left_pix2depth,
-        left_pix2weights,
-        right_pix2tri,
-        right_pix2depth,
-        right_pix2weights,
-        img_w,
-        img_h,
-    )
+    let right = Layer {
+        pix2tri: right_pix2tri,
+        pix2depth: right_pix2depth,
+        pix2weights: right_pix2weights,
+    };
+    layers::join(left_pix2tri, left_pix2depth, left_pix2weights, &right, img_w, img_h)
 }

@@ -1,17 +1,15 @@
-use mathlib.Core.Path.{sym}
-use native.Mathlib.Omega.{arith}
-use lib.Seq.{length-take-le}
+-- `two_runs::draw_in_two_runs`: what the calls promise, and the theorem.
+use Rattle.std.proofs.Common.{arith}
 use Rattle.cells.specs.Layer.{layer}
 use Rattle.two_runs.proofs.Runs.{few_faces, runs_joined}
 use Rattle.two_runs.proofs.draw_in_two_runs.Goals as goal
 
-pub slice_bounds-draw_run-end : goal.slice_bounds-draw_run-end
-slice_bounds-draw_run-end c = sym (length-take-le _ c.args.tri2vtx.now (omega (arith, c.requires.count_in_bounds)))
-
 pub overflow_cast-count : goal.overflow_cast-count
-overflow_cast-count c = record { fits = omega (arith, c.requires.count_in_bounds, few_faces c.args.tri2vtx.now c.args.vtx2xyz.now c.args.img_w c.args.img_h c.args.transform_world2ndc.now c.args.facing c.requires.img_h_value) }
+overflow_cast-count c = let a = c.args in
+    record { fits = omega (arith, c.requires.count, few_faces a.tri2vtx.now a.vtx2xyz.now a.img_w a.img_h a.transform_world2ndc.now a.facing c.requires.accepted) }
 
 pub returns : goal.returns
-returns c = runs_joined c.args.tri2vtx.now c.args.vtx2xyz.now c.args.img_w c.args.img_h c.args.transform_world2ndc.now c.args.facing c.requires.img_h_value
-    (layer c.args.left_pix2tri.now c.args.left_pix2depth.now c.args.left_pix2weights.now) (layer c.args.right_pix2tri.now c.args.right_pix2depth.now c.args.right_pix2weights.now) c.args.count
-    c.requires.count_in_bounds c.requires.spans c.requires.spans_2 c.draw_run.ensures c.draw_run-2.ensures c.join.ensures
+returns c = let a = c.args in
+    runs_joined a.tri2vtx.now a.vtx2xyz.now a.img_w a.img_h a.transform_world2ndc.now a.facing c.requires.accepted
+    (layer a.left_pix2tri.now a.left_pix2depth.now a.left_pix2weights.now) (layer a.right_pix2tri.now a.right_pix2depth.now a.right_pix2weights.now) a.count
+    c.requires.count c.requires.left c.requires.right c.draw_run.ensures c.draw_run-2.ensures c.join.ensures
