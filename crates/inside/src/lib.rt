@@ -30,7 +30,7 @@ pub fn all_inside(weights: Option<CornerWeights>) -> bool
 
 // The weights of q in the triangle of three projected corners.
 #[tactic(auto, unfolding(crate::specs::Inside::weights_in))]
-fn weights_in(q: Vec2, t: Triangle<Projected>) -> Option<CornerWeights>
+pub fn weights_in(q: Vec2, t: Triangle<Projected>) -> Option<CornerWeights>
     ensures { corner_weights_of result ≡ spec.weights_in (point2 q) (some (projected_corners t)) }
 {
     let corners = Triangle {

@@ -20,9 +20,9 @@ fn unit(n: Vec3) -> Vec3
     }
 }
 
-#[tactic(auto, unfolding(crate::specs::Normal::unit_normal, rays::specs::Plane::normal))]
+#[tactic(auto, unfolding(crate::specs::Normal::unit_normal))]
 pub fn unit_normal(p: Triangle<Vec3>) -> Vec3
     ensures { point3 result ≡ normal.unit_normal (corners_of p) }
 {
-    unit(rays::cross3(rays::minus3(p.p1, p.p0), rays::minus3(p.p2, p.p0)))
+    unit(rays::normal(p))
 }

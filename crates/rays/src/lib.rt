@@ -104,7 +104,7 @@ pub fn ray_at(m: &[f32; 16], x: f32, y: f32) -> Option<Ray>
 
 // A vector upright on the plane of three corners; its length is the doubled area of the triangle.
 #[tactic(auto, unfolding(crate::specs::Plane::normal))]
-fn normal(p: Triangle<Vec3>) -> Vec3
+pub fn normal(p: Triangle<Vec3>) -> Vec3
     ensures { point3 result ≡ plane.normal floats (corners_of p) }
 {
     cross3(minus3(p.p1, p.p0), minus3(p.p2, p.p0))

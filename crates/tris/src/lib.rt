@@ -35,16 +35,10 @@ impl Tri {
         Tri { xyz, pix }
     }
 
-    #[tactic(auto, unfolding(inside::specs::Inside::weights_in))]
     fn barycentric_pix(&self, q: Vec2) -> Option<CornerWeights>
         ensures { corner_weights_of result ≡ weights_in (point2 q) (some (projected_in self.now)) }
     {
-        let corners = Triangle {
-            p0: geometry::flat(self.pix.p0.p),
-            p1: geometry::flat(self.pix.p1.p),
-            p2: geometry::flat(self.pix.p2.p),
-        };
-        geometry::corner_weights(q, corners)
+        inside::weights_in(q, self.pix)
     }
 
     // Are the weights of q all ≥ 0? None means outside.
