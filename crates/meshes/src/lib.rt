@@ -92,17 +92,11 @@ impl Mesh<'_> {
     }
 
     // Vertex number v.
-    #[tactic(auto, unfolding(crate::specs::Mesh::vertex_at))]
     pub fn vertex(&self, v: usize) -> Vec3
         requires { v < length self.now.vtx2xyz.now / 3 }
         ensures { point3 result ≡ vertex_at self.now.vtx2xyz.now v }
     {
-        let k = 3 * v;
-        Vec3 {
-            x: self.vtx2xyz[k],
-            y: self.vtx2xyz[k + 1],
-            z: self.vtx2xyz[k + 2],
-        }
+        vertex(self.vtx2xyz, v)
     }
 
     // The corners of a face.
@@ -128,6 +122,20 @@ impl Mesh<'_> {
         let p1 = geometry::project(m, self.vertex(f.v1))?;
         let p2 = geometry::project(m, self.vertex(f.v2))?;
         Some(Triangle { p0, p1, p2 })
+    }
+}
+
+// Vertex number v of any vertex slice that has it.
+#[tactic(auto, unfolding(crate::specs::Mesh::vertex_at))]
+pub fn vertex(vtx2xyz: &[f32], v: usize) -> Vec3
+    requires { 3 * v + 2 < length vtx2xyz.now }
+    ensures { point3 result ≡ vertex_at vtx2xyz.now v }
+{
+    let k = 3 * v;
+    Vec3 {
+        x: vtx2xyz[k],
+        y: vtx2xyz[k + 1],
+        z: vtx2xyz[k + 2],
     }
 }
 

@@ -39,12 +39,23 @@ impl ImageSize {
     }
 
     // How many pairs of neighbours there are along an axis.
-    #[tactic(auto, using(crate::specs::Laws::edges_few))]
     pub fn edge_count(self, axis: Axis) -> usize
         ensures { result ≡ edge.edge_count (edge.axis axis.right axis.down) self.w self.h }
     {
-        (self.h - axis.down) * (self.w - axis.right)
+        edge_count(self.w, self.h, axis.right, axis.down)
     }
+}
+
+// How many pairs of pixels an image has whose second lies so many columns to the right and so many rows down.
+#[tactic(auto, using(crate::specs::Laws::edges_few))]
+pub fn edge_count(img_w: usize, img_h: usize, right: usize, down: usize) -> usize
+    requires width { img_w ≤ 4096 }
+    requires height { img_h ≤ 4096 }
+    requires columns { right ≤ img_w }
+    requires rows { down ≤ img_h }
+    ensures { result ≡ edge.edge_count (edge.axis right down) img_w img_h }
+{
+    (img_h - down) * (img_w - right)
 }
 
 // A column, counted from the left, and a row, counted from the top, both from 0 on.

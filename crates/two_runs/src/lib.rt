@@ -98,5 +98,12 @@ pub fn draw_in_two_runs(
         pix2depth: right_pix2depth,
         pix2weights: right_pix2weights,
     };
-    layers::join(left_pix2tri, left_pix2depth, left_pix2weights, &right, img_w, img_h)
+    layers::join(
+        left_pix2tri,
+        left_pix2depth,
+        left_pix2weights,
+        &right,
+        img_w,
+        img_h,
+    )
 }
