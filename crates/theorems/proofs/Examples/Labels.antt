@@ -2,7 +2,6 @@
 use Rattle.std.specs.Prelude.{ℕ, zero, suc, ◌<◌, ◌≡◌, refl, false, List, [], ◌∷◌}
 use Rattle.std.proofs.Common.{sym, arith}
 use Rattle.questions.specs.Questions.{empty, outcome, sizes, bounded, exact, names_face, first_no}
-use Rattle.lists.specs.Lists.{every}
 use Rattle.cells.specs.Layer.{Layer, layer}
 use Rattle.labels.specs.Labels.{body_of, label, labelled, label_code, labelling}
 use Rattle.labels.specs.Screen.{empty_at, body_at, SameBodies}

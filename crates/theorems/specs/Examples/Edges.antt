@@ -2,7 +2,7 @@
 use Rattle.std.specs.Prelude.{ℕ, ◌≡◌, refl, List, [], ◌∷◌, Float}
 use Rattle.std.specs.Float.{nan}
 use Rattle.std.specs.Float.Ieee.{of_bits, of_int, add, sub, mul, div, neg, lt, le, eq}
-use Rattle.lists.specs.Lists.{tabulate, every}
+use Rattle.lists.specs.Lists.{tabulate}
 use Rattle.questions.specs.Questions.{Outcome, outcome, first_no, sizes, channels, groups, exact, names_face}
 use Rattle.geometry.specs.Formula.{sum_of, cross2, areas, total, over_total, row, over}
 use Rattle.geometry.specs.Leaf.{weighed, weighed_all, with_sum, weighed_with_sum, corner_weights, divided, project}

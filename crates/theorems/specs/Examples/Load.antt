@@ -3,7 +3,7 @@ use Rattle.std.specs.Prelude.{ℕ, ◌≡◌, refl, false}
 use mathlib.Core.List.{List, [], ◌∷◌, ◌++◌, sum}
 use Rattle.std.specs.Float.{inf}
 use Rattle.std.specs.Float.Ieee.{of_bits, of_int, add, sub, mul, div, neg, lt, le, eq}
-use Rattle.lists.specs.Lists.{tabulate, every, sum_of, count}
+use Rattle.lists.specs.Lists.{tabulate, sum_of, count}
 use Rattle.questions.specs.Questions.{Outcome, outcome, first_no, sizes, groups}
 use Rattle.geometry.specs.Formula.{row, over}
 use Rattle.geometry.specs.Leaf.{divided, project}

@@ -2,7 +2,7 @@
 use Rattle.std.specs.Prelude.{ℕ, ◌≡◌, refl, List, [], ◌∷◌, Float}
 use Rattle.std.specs.Float.{nan, binary32}
 use Rattle.std.specs.Float.Ieee.{of_bits, of_int, add, sub, mul, div, neg, eq}
-use Rattle.lists.specs.Lists.{tabulate, every}
+use Rattle.lists.specs.Lists.{tabulate}
 use Rattle.questions.specs.Questions.{Outcome, outcome, empty, first_no, sizes, channels, groups, exact, names_face}
 use Rattle.geometry.specs.Formula.{blend, row, over}
 use Rattle.geometry.specs.Leaf.{divided, project}
