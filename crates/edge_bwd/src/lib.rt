@@ -42,9 +42,9 @@ fn ask_bwd<'a>(
     pix2val: &[f32],
     dldw_pix2val: &[f32],
 ) -> Result<(), Refusal>
-    ensures { code_of result ≡ bwd_code «tri2vtx».now «pix2tri».now img_h
-        (edge_view (view_of «tri2vtx».now «pix2tri».now) transform_world2pix.now «vtx2xyz».now img_w)
-        (pixel_values «pix2val».now dldw_pix2val.now num_vdim) dldw_vtx2xyz.now }
+    ensures { code_of result ≡ bwd_code tri2vtx.now pix2tri.now img_h
+        (edge_view (view_of tri2vtx.now pix2tri.now) transform_world2pix.now vtx2xyz.now img_w)
+        (pixel_values pix2val.now dldw_pix2val.now num_vdim) dldw_vtx2xyz.now }
 {
     questions::ask_opening(img_w, img_h, num_vdim, tri2vtx.len(), vtx2xyz.len())?;
     let size = ImageSize { w: img_w, h: img_h };
@@ -79,9 +79,9 @@ pub fn bwd<'a>(
     dldw_pix2val: &'a [f32],
 ) -> Result<(), Refusal>
     ensures { outcome (code_of result) dldw_vtx2xyz.new
-        ≡ edge_bwd «tri2vtx».now «pix2tri».now img_h
-        (edge_view (view_of «tri2vtx».now «pix2tri».now) transform_world2pix.now «vtx2xyz».now img_w)
-        (pixel_values «pix2val».now dldw_pix2val.now num_vdim) dldw_vtx2xyz.old }
+        ≡ edge_bwd tri2vtx.now pix2tri.now img_h
+        (edge_view (view_of tri2vtx.now pix2tri.now) transform_world2pix.now vtx2xyz.now img_w)
+        (pixel_values pix2val.now dldw_pix2val.now num_vdim) dldw_vtx2xyz.old }
 {
     ask_bwd(
         tri2vtx,

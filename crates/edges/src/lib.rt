@@ -43,10 +43,10 @@ fn ask_edges<'a>(
     vedge2type: &[u8],
     vedge2dldr: &[f32],
 ) -> Result<(), Refusal>
-    ensures { code_of result ≡ edge_code «tri2vtx».now «pix2tri».now img_h
-        (edge_view (view_of «tri2vtx».now «pix2tri».now) transform_world2pix.now «vtx2xyz».now img_w)
-        (pixel_values «pix2val».now dldw_pix2val.now num_vdim)
-        (edge_buffers (axis_buffers «hedge2type».now «hedge2dldr».now) (axis_buffers «vedge2type».now «vedge2dldr».now)) }
+    ensures { code_of result ≡ edge_code tri2vtx.now pix2tri.now img_h
+        (edge_view (view_of tri2vtx.now pix2tri.now) transform_world2pix.now vtx2xyz.now img_w)
+        (pixel_values pix2val.now dldw_pix2val.now num_vdim)
+        (edge_buffers (axis_buffers hedge2type.now hedge2dldr.now) (axis_buffers vedge2type.now vedge2dldr.now)) }
 {
     questions::ask_opening(img_w, img_h, num_vdim, tri2vtx.len(), vtx2xyz.len())?;
     let size = ImageSize { w: img_w, h: img_h };
@@ -84,11 +84,11 @@ pub fn edge_gradient_and_type<'a>(
     vedge2type: &mut [u8],
     vedge2dldr: &mut [f32],
 ) -> Result<(), Refusal>
-    ensures { outcome (code_of result) (edge_buffers (axis_buffers «hedge2type».new «hedge2dldr».new) (axis_buffers «vedge2type».new «vedge2dldr».new))
-        ≡ edge_typing «tri2vtx».now «pix2tri».now img_h
-        (edge_view (view_of «tri2vtx».now «pix2tri».now) transform_world2pix.now «vtx2xyz».now img_w)
-        (pixel_values «pix2val».now dldw_pix2val.now num_vdim)
-        (edge_buffers (axis_buffers «hedge2type».old «hedge2dldr».old) (axis_buffers «vedge2type».old «vedge2dldr».old)) }
+    ensures { outcome (code_of result) (edge_buffers (axis_buffers hedge2type.new hedge2dldr.new) (axis_buffers vedge2type.new vedge2dldr.new))
+        ≡ edge_typing tri2vtx.now pix2tri.now img_h
+        (edge_view (view_of tri2vtx.now pix2tri.now) transform_world2pix.now vtx2xyz.now img_w)
+        (pixel_values pix2val.now dldw_pix2val.now num_vdim)
+        (edge_buffers (axis_buffers hedge2type.old hedge2dldr.old) (axis_buffers vedge2type.old vedge2dldr.old)) }
 {
     ask_edges(
         tri2vtx,

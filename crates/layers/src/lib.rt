@@ -79,23 +79,27 @@ pub fn join(
     left_pix2tri: &mut [u32],
     left_pix2depth: &mut [f32],
     left_pix2weights: &mut [f32],
-    right: &Layer,
+    right_pix2tri: &[u32],
+    right_pix2depth: &[f32],
+    right_pix2weights: &[f32],
     img_w: usize,
     img_h: usize,
 ) -> Result<(), Refusal>
     ensures { outcome (code_of result) (layer left_pix2tri.new left_pix2depth.new left_pix2weights.new)
-        ≡ joining (layer left_pix2tri.old left_pix2depth.old left_pix2weights.old) (lent right.now) img_w img_h }
+        ≡ joining (layer left_pix2tri.old left_pix2depth.old left_pix2weights.old)
+        (layer right_pix2tri.now right_pix2depth.now right_pix2weights.now) img_w img_h }
 {
-    ask_join(
-        &Layer {
-            pix2tri: left_pix2tri,
-            pix2depth: left_pix2depth,
-            pix2weights: left_pix2weights,
-        },
-        right,
-        img_w,
-        img_h,
-    )?;
+    let lent_left = Layer {
+        pix2tri: left_pix2tri,
+        pix2depth: left_pix2depth,
+        pix2weights: left_pix2weights,
+    };
+    let right = Layer {
+        pix2tri: right_pix2tri,
+        pix2depth: right_pix2depth,
+        pix2weights: right_pix2weights,
+    };
+    ask_join(&lent_left, &right, img_w, img_h)?;
     let size = ImageSize { w: img_w, h: img_h };
     let mut left = LayerMut {
         size,
@@ -103,6 +107,6 @@ pub fn join(
         pix2depth: left_pix2depth,
         pix2weights: left_pix2weights,
     };
-    left.join(right);
+    left.join(&right);
     Ok(())
 }

@@ -111,7 +111,7 @@ pub fn pixels_ok(
     dldw_pix2val: &[f32],
 ) -> bool
     requires { Channels num_vdim }
-    ensures { result ≡ exact_pixels size.w size.h «pix2tri».now (pixel_values «pix2val».now dldw_pix2val.now num_vdim) }
+    ensures { result ≡ exact_pixels size.w size.h pix2tri.now (pixel_values pix2val.now dldw_pix2val.now num_vdim) }
 {
     let n = size.pixels();
     pix2tri.len() == n && pix2val.len() == n * num_vdim && dldw_pix2val.len() == n * num_vdim

@@ -28,7 +28,6 @@ ghost use Rattle.edges.specs.Calls.{edge_buffers, edge_typing};
 ghost use Rattle.edge_bwd.specs.Calls.{edge_bwd};
 ghost use Rattle.velocity.specs.Calls.{velocities};
 
-use cells::Layer;
 use load::DrawingLoad;
 use removal_counts::RemovalPreview;
 
@@ -135,16 +134,13 @@ pub fn paqelzim_join(
         ≡ joining (layer left_pix2tri.old left_pix2depth.old left_pix2weights.old)
         (layer right_pix2tri.now right_pix2depth.now right_pix2weights.now) img_w img_h }
 {
-    let right = Layer {
-        pix2tri: right_pix2tri,
-        pix2depth: right_pix2depth,
-        pix2weights: right_pix2weights,
-    };
     questions::code(layers::join(
         left_pix2tri,
         left_pix2depth,
         left_pix2weights,
-        &right,
+        right_pix2tri,
+        right_pix2depth,
+        right_pix2weights,
         img_w,
         img_h,
     ))
@@ -237,11 +233,11 @@ pub fn paqelzim_edge_gradient_and_type(
     vedge2type: &mut [u8],
     vedge2dldr: &mut [f32],
 ) -> u32
-    ensures { outcome result (edge_buffers (axis_buffers «hedge2type».new «hedge2dldr».new) (axis_buffers «vedge2type».new «vedge2dldr».new))
-        ≡ edge_typing «tri2vtx».now «pix2tri».now img_h
-        (edge_view (view_of «tri2vtx».now «pix2tri».now) transform_world2pix.now «vtx2xyz».now img_w)
-        (pixel_values «pix2val».now dldw_pix2val.now num_vdim)
-        (edge_buffers (axis_buffers «hedge2type».old «hedge2dldr».old) (axis_buffers «vedge2type».old «vedge2dldr».old)) }
+    ensures { outcome result (edge_buffers (axis_buffers hedge2type.new hedge2dldr.new) (axis_buffers vedge2type.new vedge2dldr.new))
+        ≡ edge_typing tri2vtx.now pix2tri.now img_h
+        (edge_view (view_of tri2vtx.now pix2tri.now) transform_world2pix.now vtx2xyz.now img_w)
+        (pixel_values pix2val.now dldw_pix2val.now num_vdim)
+        (edge_buffers (axis_buffers hedge2type.old hedge2dldr.old) (axis_buffers vedge2type.old vedge2dldr.old)) }
 {
     questions::code(edges::edge_gradient_and_type(
         tri2vtx,
@@ -273,9 +269,9 @@ pub fn paqelzim_bwd(
     dldw_pix2val: &[f32],
 ) -> u32
     ensures { outcome result dldw_vtx2xyz.new
-        ≡ edge_bwd «tri2vtx».now «pix2tri».now img_h
-        (edge_view (view_of «tri2vtx».now «pix2tri».now) transform_world2pix.now «vtx2xyz».now img_w)
-        (pixel_values «pix2val».now dldw_pix2val.now num_vdim) dldw_vtx2xyz.old }
+        ≡ edge_bwd tri2vtx.now pix2tri.now img_h
+        (edge_view (view_of tri2vtx.now pix2tri.now) transform_world2pix.now vtx2xyz.now img_w)
+        (pixel_values pix2val.now dldw_pix2val.now num_vdim) dldw_vtx2xyz.old }
 {
     questions::code(edge_bwd::bwd(
         tri2vtx,
@@ -299,8 +295,8 @@ pub fn paqelzim_interpolate_from_edges(
     vtx2xy: &[f32],
     vtx2velo: &mut [f32],
 ) -> u32
-    ensures { outcome result «vtx2velo».new
-        ≡ velocities img_w img_h «hedge2vy».now «vedge2vx».now «vtx2xy».now «vtx2velo».old }
+    ensures { outcome result vtx2velo.new
+        ≡ velocities img_w img_h hedge2vy.now vedge2vx.now vtx2xy.now vtx2velo.old }
 {
     questions::code(velocity::interpolate_from_edges(
         img_w, img_h, hedge2vy, vedge2vx, vtx2xy, vtx2velo,

@@ -242,11 +242,11 @@ pub extern "C" fn paqelzim_edge_gradient_and_type(
     vedge2type: &mut [u8],
     vedge2dldr: &mut [f32],
 ) -> u32
-    ensures { outcome result (edge_buffers (axis_buffers «hedge2type».new «hedge2dldr».new) (axis_buffers «vedge2type».new «vedge2dldr».new))
-        ≡ edge_typing «tri2vtx».now «pix2tri».now img_h
-        (edge_view (view_of «tri2vtx».now «pix2tri».now) transform_world2pix.now «vtx2xyz».now img_w)
-        (pixel_values «pix2val».now dldw_pix2val.now num_vdim)
-        (edge_buffers (axis_buffers «hedge2type».old «hedge2dldr».old) (axis_buffers «vedge2type».old «vedge2dldr».old)) }
+    ensures { outcome result (edge_buffers (axis_buffers hedge2type.new hedge2dldr.new) (axis_buffers vedge2type.new vedge2dldr.new))
+        ≡ edge_typing tri2vtx.now pix2tri.now img_h
+        (edge_view (view_of tri2vtx.now pix2tri.now) transform_world2pix.now vtx2xyz.now img_w)
+        (pixel_values pix2val.now dldw_pix2val.now num_vdim)
+        (edge_buffers (axis_buffers hedge2type.old hedge2dldr.old) (axis_buffers vedge2type.old vedge2dldr.old)) }
 {
     paqelzim::paqelzim_edge_gradient_and_type(
         tri2vtx,
@@ -279,9 +279,9 @@ pub extern "C" fn paqelzim_bwd(
     dldw_pix2val: &[f32],
 ) -> u32
     ensures { outcome result dldw_vtx2xyz.new
-        ≡ edge_bwd «tri2vtx».now «pix2tri».now img_h
-        (edge_view (view_of «tri2vtx».now «pix2tri».now) transform_world2pix.now «vtx2xyz».now img_w)
-        (pixel_values «pix2val».now dldw_pix2val.now num_vdim) dldw_vtx2xyz.old }
+        ≡ edge_bwd tri2vtx.now pix2tri.now img_h
+        (edge_view (view_of tri2vtx.now pix2tri.now) transform_world2pix.now vtx2xyz.now img_w)
+        (pixel_values pix2val.now dldw_pix2val.now num_vdim) dldw_vtx2xyz.old }
 {
     paqelzim::paqelzim_bwd(
         tri2vtx,
@@ -306,8 +306,8 @@ pub extern "C" fn paqelzim_interpolate_from_edges(
     vtx2xy: &[f32],
     vtx2velo: &mut [f32],
 ) -> u32
-    ensures { outcome result «vtx2velo».new
-        ≡ velocities img_w img_h «hedge2vy».now «vedge2vx».now «vtx2xy».now «vtx2velo».old }
+    ensures { outcome result vtx2velo.new
+        ≡ velocities img_w img_h hedge2vy.now vedge2vx.now vtx2xy.now vtx2velo.old }
 {
     paqelzim::paqelzim_interpolate_from_edges(img_w, img_h, hedge2vy, vedge2vx, vtx2xy, vtx2velo)
 }

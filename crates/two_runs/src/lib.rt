@@ -10,7 +10,6 @@ ghost use Rattle.layers.specs.Calls.{clearing};
 ghost use Rattle.rules.specs.Calls.{draw_code, draws};
 ghost use Rattle.sequences.specs.Whole.{cleared};
 
-use cells::Layer;
 use questions::Refusal;
 
 // Clears a layer and draws a run of a mesh's faces on it, numbered from `first`. A refused call leaves what it was lent, so it is not asked what they answer.
@@ -93,16 +92,13 @@ pub fn draw_in_two_runs(
         count as u32,
         facing,
     );
-    let right = Layer {
-        pix2tri: right_pix2tri,
-        pix2depth: right_pix2depth,
-        pix2weights: right_pix2weights,
-    };
     layers::join(
         left_pix2tri,
         left_pix2depth,
         left_pix2weights,
-        &right,
+        right_pix2tri,
+        right_pix2depth,
+        right_pix2weights,
         img_w,
         img_h,
     )

@@ -24,15 +24,15 @@ struct EdgeVelocities<'a> {
     hedge2vy: &'a [f32],
     vedge2vx: &'a [f32],
     ghost sized: { Sized 2 size.w size.h },
-    ghost hedges: { length «hedge2vy».now ≡ edge_count hedge size.w size.h },
-    ghost vedges: { length «vedge2vx».now ≡ edge_count vedge size.w size.h },
+    ghost hedges: { length hedge2vy.now ≡ edge_count hedge size.w size.h },
+    ghost vedges: { length vedge2vx.now ≡ edge_count vedge size.w size.h },
 }
 
 impl EdgeVelocities<'_> {
     // The velocity at a point: x from the pairs side by side, y from those one above the other.
     fn at(&self, p: Vec2) -> Vec2
-        ensures x { result.x ≡ sample vedge self.now.size.w self.now.size.h self.now.«vedge2vx».now (point2 p) }
-        ensures y { result.y ≡ sample hedge self.now.size.w self.now.size.h self.now.«hedge2vy».now (point2 p) }
+        ensures x { result.x ≡ sample vedge self.now.size.w self.now.size.h self.now.vedge2vx.now (point2 p) }
+        ensures y { result.y ≡ sample hedge self.now.size.w self.now.size.h self.now.hedge2vy.now (point2 p) }
     {
         let vedges = Grid {
             size: self.size,
@@ -61,7 +61,7 @@ fn ask_velocity(
     vtx2xy: &[f32],
     vtx2velo: &[f32],
 ) -> Result<(), Refusal>
-    ensures { code_of result ≡ velocity_code img_w img_h «hedge2vy».now «vedge2vx».now «vtx2xy».now «vtx2velo».now }
+    ensures { code_of result ≡ velocity_code img_w img_h hedge2vy.now vedge2vx.now vtx2xy.now vtx2velo.now }
 {
     ask(sizes_ok(2, img_w, img_h), Refusal::Size)?;
     ask(groups_ok(2, MOST_COUNT, vtx2xy.len()), Refusal::Slices)?;
@@ -77,8 +77,8 @@ fn ask_velocity(
 // Vertex number v.
 #[tactic(auto, unfolding(crate::specs::Velocity::point_at))]
 fn point(vtx2xy: &[f32], v: usize) -> Vec2
-    requires { 2 * v + 1 < length «vtx2xy».now }
-    ensures { point2 result ≡ point_at «vtx2xy».now v }
+    requires { 2 * v + 1 < length vtx2xy.now }
+    ensures { point2 result ≡ point_at vtx2xy.now v }
 {
     Vec2 {
         x: vtx2xy[2 * v],
@@ -88,10 +88,10 @@ fn point(vtx2xy: &[f32], v: usize) -> Vec2
 
 // The velocity of every vertex.
 fn fill_velocities(edges: &EdgeVelocities, vtx2xy: &[f32], vtx2velo: &mut [f32])
-    requires pairs { 2 * (length «vtx2xy».now / 2) ≡ length «vtx2xy».now }
-    requires lent { length «vtx2velo».old ≡ length «vtx2xy».now }
-    ensures { «vtx2velo».new
-        ≡ tabulate (velocity_at edges.now.size.w edges.now.size.h edges.now.«hedge2vy».now edges.now.«vedge2vx».now «vtx2xy».now) 0 (length «vtx2xy».now) }
+    requires pairs { 2 * (length vtx2xy.now / 2) ≡ length vtx2xy.now }
+    requires lent { length vtx2velo.old ≡ length vtx2xy.now }
+    ensures { vtx2velo.new
+        ≡ tabulate (velocity_at edges.now.size.w edges.now.size.h edges.now.hedge2vy.now edges.now.vedge2vx.now vtx2xy.now) 0 (length vtx2xy.now) }
 {
     for v in 0..vtx2xy.len() / 2 {
         let velo = edges.at(point(vtx2xy, v));
@@ -110,8 +110,8 @@ pub fn interpolate_from_edges(
     vtx2xy: &[f32],
     vtx2velo: &mut [f32],
 ) -> Result<(), Refusal>
-    ensures { outcome (code_of result) «vtx2velo».new
-        ≡ velocities img_w img_h «hedge2vy».now «vedge2vx».now «vtx2xy».now «vtx2velo».old }
+    ensures { outcome (code_of result) vtx2velo.new
+        ≡ velocities img_w img_h hedge2vy.now vedge2vx.now vtx2xy.now vtx2velo.old }
 {
     ask_velocity(img_w, img_h, hedge2vy, vedge2vx, vtx2xy, vtx2velo)?;
     let size = ImageSize { w: img_w, h: img_h };

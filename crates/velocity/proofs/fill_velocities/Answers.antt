@@ -15,8 +15,8 @@ loop-v-preserved c =
     let a = c.args in (
       simp length-set c.loop-v.invariant.0,
       two_more _ _ c.loop-v.v _ _ (omega (arith, c.requires.lent)) c.loop-v.invariant.1
-          (c.at-velo.ensures.x ∙ rw e (sym (x_place _ _ a.edges.now.«hedge2vy».now _ _ c.loop-v.v)))
-          (c.at-velo.ensures.y ∙ rw e (sym (y_place _ _ _ a.edges.now.«vedge2vx».now _ c.loop-v.v))),
+          (c.at-velo.ensures.x ∙ rw e (sym (x_place _ _ a.edges.now.hedge2vy.now _ _ c.loop-v.v)))
+          (c.at-velo.ensures.y ∙ rw e (sym (y_place _ _ _ a.edges.now.vedge2vx.now _ c.loop-v.v))),
     )
 
 pub returns : goal.returns

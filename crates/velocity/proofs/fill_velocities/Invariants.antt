@@ -8,4 +8,4 @@ use Rattle.velocity.proofs.fill_velocities.Given as goal
 
 abbrev pub invariant-loop-v : goal.invariant-loop-v
 invariant-loop-v l = (length l.vtx2velo ≡ length l.vtx2xy)
-    × (l.vtx2velo ≡ stored (velocity_at l.edges.size.w l.edges.size.h l.edges.«hedge2vy».now l.edges.«vedge2vx».now l.vtx2xy) l.initial.vtx2velo (2 * l.v))
+    × (l.vtx2velo ≡ stored (velocity_at l.edges.size.w l.edges.size.h l.edges.hedge2vy.now l.edges.vedge2vx.now l.vtx2xy) l.initial.vtx2velo (2 * l.v))
