@@ -1,7 +1,7 @@
 // How much work a mesh is, without drawing it: the public call `drawing_load`.
 #![tactic(auto)]
 
-ghost use Rattle.std.specs.Prelude.{◌≡◌, ◌/◌, ◌≤◌, length};
+ghost use Rattle.std.specs.Prelude.{◌≡◌, Bool, ◌/◌, ◌≤◌, length};
 ghost use Rattle.lists.specs.Lists.{sum_of};
 ghost use Rattle.questions.specs.Answer.{code_of};
 ghost use Rattle.questions.specs.Questions.{most_count};
@@ -14,7 +14,7 @@ ghost use Rattle.load.specs.Answer.{load_of, answered, answered_in_c};
 
 use boxes::lines::Lines;
 use meshes::Mesh;
-use pieces::{Piece, Pieces};
+use pieces::Pieces;
 use pixels::ImageSize;
 use questions::{Refusal, ask};
 use std::fmt;
@@ -54,11 +54,12 @@ impl From<Result<Load, Refusal>> for DrawingLoad {
     }
 }
 
-// The pixels that the scan of a piece offers: its columns times its rows. Pieces off the image leave early.
-fn piece_pixels(size: ImageSize, t: Piece) -> u64
-    ensures { result ≡ rule.piece_pixels size.w size.h (piece_of t) }
+// The pixels that the scan of a piece offers: its columns times its rows. Pieces off the image leave early. The three corners
+// travel as an array of arrays, by value.
+fn piece_pixels(size: ImageSize, ndc: [[f32; 3]; 3]) -> u64
+    ensures { (turned : Bool) → result ≡ rule.piece_pixels size.w size.h (piece_of turned ndc) }
 {
-    let t = t.corners;
+    let t = pieces::corners(ndc);
     let columns = Lines::columns(size).count_centres(t.p0.x, t.p1.x, t.p2.x);
     if columns == 0 {
         return 0;

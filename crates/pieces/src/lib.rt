@@ -2,24 +2,19 @@
 // No function here is a public call.
 #![tactic(auto)]
 
-ghost use Rattle.std.specs.Prelude.{◌≡◌, Bool, true, ℕ, ◌/◌, ◌<◌, length, List, ◌∷◌, [], Float};
+ghost use Rattle.std.specs.Prelude.{◌≡◌, Bool, true, false, ℕ, ◌/◌, ◌<◌, length, List, ◌∷◌, [], Float};
+ghost use Rattle.geometry.specs.Answer.{point3, corners_of};
+ghost use Rattle.geometry.specs.Vector.{triangle};
 ghost use Rattle.meshes.specs.Mesh.{face_at};
 ghost use Rattle.rules.specs.Piece as rule;
 ghost use Rattle.rules.specs.Offers.{scene, face_pieces};
 ghost use Rattle.rules.specs.declared.Facing.{Facing};
 ghost use Rattle.corners.specs.Answer.{corner_of};
-ghost use Rattle.pieces.specs.Answer.{pieces_of, piece_of};
+ghost use Rattle.pieces.specs.Answer.{pieces_of, piece_of, corners_in};
 
 use corners::Corner;
 use geometry::{Triangle, Vec3};
 use meshes::Mesh;
-
-// A piece: three corners in normalised device coordinates, and whether they are listed turned round.
-#[derive(Clone, Copy)]
-pub struct Piece {
-    pub corners: Triangle<Vec3>,
-    pub turned: bool,
-}
 
 // The corners of a face that is cut, the one alone on its side of the near plane first, and whether they are so listed turned round.
 #[derive(Clone, Copy)]
@@ -39,65 +34,74 @@ pub enum Pieces {
     Two(Lone),
 }
 
+// The three projected corners of a piece travel as an array of arrays, by value: `[[f32; 3]; 3]`, a row for each corner. Whether they are listed turned round
+// stands beside the array.
+
+// The corners that an array of arrays holds.
+pub fn corners(ndc: [[f32; 3]; 3]) -> Triangle<Vec3>
+    ensures { corners_of result ≡ corners_in ndc }
+{
+    Triangle {
+        p0: Vec3 {
+            x: ndc[0][0],
+            y: ndc[0][1],
+            z: ndc[0][2],
+        },
+        p1: Vec3 {
+            x: ndc[1][0],
+            y: ndc[1][1],
+            z: ndc[1][2],
+        },
+        p2: Vec3 {
+            x: ndc[2][0],
+            y: ndc[2][1],
+            z: ndc[2][2],
+        },
+    }
+}
+
+// The array of arrays of three corners.
+fn rows(a: Vec3, b: Vec3, c: Vec3) -> [[f32; 3]; 3]
+    ensures { corners_in result ≡ triangle (point3 a) (point3 b) (point3 c) }
+{
+    [[a.x, a.y, a.z], [b.x, b.y, b.z], [c.x, c.y, c.z]]
+}
+
 // The face whole.
 #[tactic(auto, unfolding(rules::specs::Piece::whole))]
-pub fn whole(t: Triangle<Corner>) -> Piece
-    ensures { piece_of result ∷ [] ≡ rule.whole (corner_of t.p0) (corner_of t.p1) (corner_of t.p2) }
+pub fn whole(t: Triangle<Corner>) -> [[f32; 3]; 3]
+    ensures { piece_of false result ∷ [] ≡ rule.whole (corner_of t.p0) (corner_of t.p1) (corner_of t.p2) }
 {
-    Piece {
-        corners: Triangle {
-            p0: t.p0.p,
-            p1: t.p1.p,
-            p2: t.p2.p,
-        },
-        turned: false,
-    }
+    rows(t.p0.p, t.p1.p, t.p2.p)
 }
 
 impl Lone {
     // The one piece at the corner that alone is beyond the near plane.
     #[tactic(auto, unfolding(rules::specs::Piece::one_piece))]
-    pub fn one_piece(self) -> Piece
-        ensures { piece_of result ∷ [] ≡ rule.one_piece self.turned (corner_of self.lone) (corner_of self.a) (corner_of self.b) }
+    pub fn one_piece(self) -> [[f32; 3]; 3]
+        ensures { piece_of self.turned result ∷ [] ≡ rule.one_piece self.turned (corner_of self.lone) (corner_of self.a) (corner_of self.b) }
     {
-        Piece {
-            corners: Triangle {
-                p0: self.lone.p,
-                p1: corners::cut(self.lone, self.a),
-                p2: corners::cut(self.lone, self.b),
-            },
-            turned: self.turned,
-        }
+        let ab = corners::cut(self.lone, self.a);
+        let ac = corners::cut(self.lone, self.b);
+        rows(self.lone.p, ab, ac)
     }
 
     // The first of two pieces, where one corner alone is before the near plane.
     #[tactic(auto, unfolding(rules::specs::Piece::first_piece))]
-    pub fn first_piece(self) -> Piece
-        ensures { piece_of result ≡ rule.first_piece self.turned (corner_of self.lone) (corner_of self.a) (corner_of self.b) }
+    pub fn first_piece(self) -> [[f32; 3]; 3]
+        ensures { piece_of self.turned result ≡ rule.first_piece self.turned (corner_of self.lone) (corner_of self.a) (corner_of self.b) }
     {
-        Piece {
-            corners: Triangle {
-                p0: self.a.p,
-                p1: self.b.p,
-                p2: corners::cut(self.a, self.lone),
-            },
-            turned: self.turned,
-        }
+        rows(self.a.p, self.b.p, corners::cut(self.a, self.lone))
     }
 
     // The second.
     #[tactic(auto, unfolding(rules::specs::Piece::second_piece))]
-    pub fn second_piece(self) -> Piece
-        ensures { piece_of result ≡ rule.second_piece self.turned (corner_of self.lone) (corner_of self.a) (corner_of self.b) }
+    pub fn second_piece(self) -> [[f32; 3]; 3]
+        ensures { piece_of self.turned result ≡ rule.second_piece self.turned (corner_of self.lone) (corner_of self.a) (corner_of self.b) }
     {
-        Piece {
-            corners: Triangle {
-                p0: self.b.p,
-                p1: corners::cut(self.b, self.lone),
-                p2: corners::cut(self.a, self.lone),
-            },
-            turned: self.turned,
-        }
+        let bc = corners::cut(self.b, self.lone);
+        let ac = corners::cut(self.a, self.lone);
+        rows(self.b.p, bc, ac)
     }
 }
 

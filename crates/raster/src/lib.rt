@@ -15,29 +15,32 @@ use cells::LayerMut;
 use corners::Corner;
 use geometry::Triangle;
 use lanes::Side;
-use pieces::{Piece, Pieces};
+use pieces::Pieces;
 use rules::Facing;
 
-// The Rust's rasterize_projected_tri: one piece, off the image, or the scan of its box; stopped after n visits.
+// The Rust's rasterize_projected_tri: one piece, off the image, or the scan of its box; stopped after n visits. The three corners travel as an array of arrays,
+// by value; whether they are listed turned round stands beside.
 pub fn rasterize_projected_tri(
     layer: &mut LayerMut,
     number: u32,
-    piece: Piece,
+    ndc: [[f32; 3]; 3],
+    turned: bool,
     n: usize,
     facing: Facing,
 )
     ensures same { SameBuffers layer.old layer.new }
-    ensures stopped { held layer.new ≡ stopped_after n facing layer.old.size.w layer.old.size.h (piece_of piece) number (held layer.old) }
+    ensures stopped { held layer.new ≡ stopped_after n facing layer.old.size.w layer.old.size.h (piece_of turned ndc) number (held layer.old) }
 {
     let size = layer.size;
-    if !boxes::meets_image(size, piece.corners) {
+    let corners = pieces::corners(ndc);
+    if !boxes::meets_image(size, corners) {
         return;
     }
-    let screen = boxes::screened(size, piece.corners);
+    let screen = boxes::screened(size, corners);
     let Some(area) = boxes::box_of(size, screen) else {
         return;
     };
-    let side = Side::of(facing, piece.turned);
+    let side = Side::of(facing, turned);
     let brush = Brush {
         screen,
         side,
@@ -47,12 +50,12 @@ pub fn rasterize_projected_tri(
 }
 
 // One piece, whole: the scan may make as many visits as the largest image has pixels.
-fn draw_piece(layer: &mut LayerMut, number: u32, piece: Piece, facing: Facing)
+fn draw_piece(layer: &mut LayerMut, number: u32, ndc: [[f32; 3]; 3], turned: bool, facing: Facing)
     ensures same { SameBuffers layer.old layer.new }
     ensures painted { held layer.new
-        ≡ painted (piece_cells facing layer.old.size.w layer.old.size.h (piece_of piece) number) (layer.old.size.w * layer.old.size.h) (held layer.old) }
+        ≡ painted (piece_cells facing layer.old.size.w layer.old.size.h (piece_of turned ndc) number) (layer.old.size.w * layer.old.size.h) (held layer.old) }
 {
-    rasterize_projected_tri(layer, number, piece, 16_777_216, facing);
+    rasterize_projected_tri(layer, number, ndc, turned, 16_777_216, facing);
 }
 
 fn draw_pieces(layer: &mut LayerMut, number: u32, pieces: Pieces, facing: Facing)
@@ -62,11 +65,11 @@ fn draw_pieces(layer: &mut LayerMut, number: u32, pieces: Pieces, facing: Facing
 {
     match pieces {
         Pieces::Nothing => {}
-        Pieces::Whole(t) => draw_piece(layer, number, pieces::whole(t), facing),
-        Pieces::One(l) => draw_piece(layer, number, l.one_piece(), facing),
+        Pieces::Whole(t) => draw_piece(layer, number, pieces::whole(t), false, facing),
+        Pieces::One(l) => draw_piece(layer, number, l.one_piece(), l.turned, facing),
         Pieces::Two(l) => {
-            draw_piece(layer, number, l.first_piece(), facing);
-            draw_piece(layer, number, l.second_piece(), facing);
+            draw_piece(layer, number, l.first_piece(), l.turned, facing);
+            draw_piece(layer, number, l.second_piece(), l.turned, facing);
         }
     }
 }
@@ -85,7 +88,7 @@ pub fn draw_corners(
         (layer.old.size.w * layer.old.size.h) (held layer.old) }
 {
     if pieces::stays_whole(t11, t) {
-        draw_piece(layer, number, pieces::whole(t), facing);
+        draw_piece(layer, number, pieces::whole(t), false, facing);
         return;
     }
     draw_pieces(layer, number, pieces::clip(t11, t), facing);

@@ -5,8 +5,7 @@
 #![tactic(auto)]
 
 use cells::{Cell, LayerMut};
-use geometry::{Triangle, Vec3, Weights};
-use pieces::Piece;
+use geometry::Weights;
 use pixels::ImageSize;
 use rules::Facing;
 use std::io;
@@ -39,12 +38,12 @@ fn write_pixel<W: Write>(output: &mut W, p: usize, cell: Cell, before: f32) -> i
     )
 }
 
-// The scan of a piece on a layer of that depth, stopped after n visits.
+// The scan of a piece on a layer of that depth, stopped after n visits. The three corners travel as an array of arrays, by value.
 fn stop<W: Write>(
     output: &mut W,
     number: u32,
     before: f32,
-    piece: Piece,
+    ndc: [[f32; 3]; 3],
     n: u32,
 ) -> io::Result<()> {
     let mut pix2tri = [EMPTY; PIXELS];
@@ -56,7 +55,7 @@ fn stop<W: Write>(
         pix2depth: &mut pix2depth,
         pix2weights: &mut pix2weights,
     };
-    raster::rasterize_projected_tri(&mut layer, number, piece, n as usize, Facing::All);
+    raster::rasterize_projected_tri(&mut layer, number, ndc, false, n as usize, Facing::All);
     write!(output, "{n:08x} ")?;
     for p in 0..PIXELS {
         let weights = Weights {
@@ -74,32 +73,19 @@ fn stop<W: Write>(
     writeln!(output)
 }
 
-// A corner of three words.
-fn corner(x: u32, y: u32, z: u32) -> Vec3 {
-    Vec3 {
-        x: f32_of(x),
-        y: f32_of(y),
-        z: f32_of(z),
-    }
-}
-
 // Runs the next case, and answers whether there was one.
 fn run_one<R: Read, W: Write>(input: &mut R, output: &mut W) -> io::Result<bool> {
     let Some(case) = words::read(input)? else {
         return Ok(false);
     };
     let [number, depth, x0, y0, z0, x1, y1, z1, x2, y2, z2, count]: [u32; 12] = case;
-    let corners = Triangle {
-        p0: corner(x0, y0, z0),
-        p1: corner(x1, y1, z1),
-        p2: corner(x2, y2, z2),
-    };
-    let piece = Piece {
-        corners,
-        turned: false,
-    };
+    let ndc = [
+        [f32_of(x0), f32_of(y0), f32_of(z0)],
+        [f32_of(x1), f32_of(y1), f32_of(z1)],
+        [f32_of(x2), f32_of(y2), f32_of(z2)],
+    ];
     for n in 0..count {
-        stop(output, number, f32_of(depth), piece, n)?;
+        stop(output, number, f32_of(depth), ndc, n)?;
     }
     Ok(true)
 }

@@ -6,7 +6,7 @@ use Rattle.load.proofs.piece_pixels.Goals as goal
 
 pub returns-then-columns-eq0 : goal.returns-then-columns-eq0
 unfolding screened on_screen
-returns-then-columns-eq0 c = no_columns _ _ _ (rw (c.columns.ensures.along, c.columns.ensures.n) at c.count_centres-columns.ensures) c.if-columns-eq0.true
+returns-then-columns-eq0 c = λ turned. rw (← c.corners-t.ensures) (no_columns _ _ _ (rw (c.columns.ensures.along, c.columns.ensures.n) at c.count_centres-columns.ensures) c.if-columns-eq0.true)
 
 pub overflow_mul-result : goal.overflow_mul-result
 overflow_mul-result c = record {
@@ -20,6 +20,6 @@ overflow_mul-result c = record {
 
 pub returns : goal.returns
 unfolding screened on_screen
-returns c = counted _ _ _
+returns c = λ turned. rw (← c.corners-t.ensures) (counted _ _ _
     (rw (c.columns.ensures.along, c.columns.ensures.n) at c.count_centres-columns.ensures)
-    (rw (c.rows.ensures.along, c.rows.ensures.n) at c.count_centres-rows.ensures)
+    (rw (c.rows.ensures.along, c.rows.ensures.n) at c.count_centres-rows.ensures))

@@ -12,4 +12,4 @@ returns-clause-painted c = let a = c.args in
     let size = a.layer.now.size in
     let enough = area_below size.sized.w_most size.sized.h_most in
     c.rasterize_projected_tri.ensures.stopped
-    ∙ stopped_all _ a.facing size.w size.h (piece_of a.piece) a.number (held a.layer.now) a.layer.now.spans (omega (arith, piece_most size.w size.h (piece_of a.piece), enough))
+    ∙ stopped_all _ a.facing size.w size.h (piece_of a.turned a.ndc) a.number (held a.layer.now) a.layer.now.spans (omega (arith, piece_most size.w size.h (piece_of a.turned a.ndc), enough))
