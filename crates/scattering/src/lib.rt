@@ -38,10 +38,10 @@ fn add_face(sums: &mut [f32], f: Face, b: Weights, g: Vec3)
 
 // The gradient g in the image at the point q, to a face and its `Tri`.
 #[tactic(auto, unfolding(crate::specs::Scattering::given, crate::specs::Scattering::spread, crate::specs::Scattering::to_point, meshes::specs::Sums::summed))]
-pub fn scatter(sums: &mut [f32], m: &[f32; 16], f: Face, tri: &Tri, q: Vec2, g: Vec3)
+pub fn scatter(sums: &mut [f32], m: &[f32; 16], f: Face, tri: Tri, q: Vec2, g: Vec3)
     requires { Among (length sums.old / 3) (face_of f) }
     ensures { sums.new
-        ≡ summed sums.old (given m.now (face_of f) (corners_in tri.now) (projected_in tri.now) (point2 q) (point3 g)) }
+        ≡ summed sums.old (given m.now (face_of f) (corners_in tri) (projected_in tri) (point2 q) (point3 g)) }
 {
     let Some(b) = tri.barycentric_world(q) else {
         return;

@@ -32,14 +32,14 @@ fn scatter_intersection_gradient(
     axis: Axis,
     first: Side,
     second: Side,
-    t0: &Tri,
-    t1: &Tri,
+    t0: Tri,
+    t1: Tri,
     d: f32,
 )
     requires first { Among (length sums.old / 3) (face_of first.face) }
     requires second { Among (length sums.old / 3) (face_of second.face) }
     ensures { sums.new ≡ summed sums.old (given_crossing m.now axis.down d (face_of first.face) (face_of second.face)
-        (corners_in t0.now) (corners_in t1.now) (projected_in t0.now) (projected_in t1.now) (point2 first.centre) (point2 second.centre)) }
+        (corners_in t0) (corners_in t1) (projected_in t0) (projected_in t1) (point2 first.centre) (point2 second.centre)) }
 {
     let n0 = t0.unormal_pix();
     let n1 = t1.unormal_pix();
@@ -65,7 +65,7 @@ fn scatter_beside_empty(sums: &mut [f32], pairs: &AxisPairs, own: Side, other: V
         return;
     }
     let g = crossings::along(pairs.axis, d);
-    scattering::scatter(sums, m, own.face, &t, own.centre, g);
+    scattering::scatter(sums, m, own.face, t, own.centre, g);
 }
 
 // Two faces, by which of the two centres lies inside the other's face: mostly neither does, and no more is worked out.
@@ -83,15 +83,15 @@ fn scatter_between(sums: &mut [f32], pairs: &AxisPairs, first: Side, second: Sid
         let t0 = Tri::new(mesh, m, first.face);
         if t0.is_inside(second.centre) {
             let t1 = Tri::new(mesh, m, second.face);
-            scatter_intersection_gradient(sums, m, pairs.axis, first, second, &t0, &t1, d);
+            scatter_intersection_gradient(sums, m, pairs.axis, first, second, t0, t1, d);
         } else {
             let g = crossings::along(pairs.axis, d);
-            scattering::scatter(sums, m, first.face, &t0, first.centre, g);
+            scattering::scatter(sums, m, first.face, t0, first.centre, g);
         }
     } else if inside::face_contains(mesh, m, first.face, second.centre) {
         let t1 = Tri::new(mesh, m, second.face);
         let g = crossings::along(pairs.axis, d);
-        scattering::scatter(sums, m, second.face, &t1, second.centre, g);
+        scattering::scatter(sums, m, second.face, t1, second.centre, g);
     }
 }
 

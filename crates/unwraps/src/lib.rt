@@ -24,16 +24,16 @@ use share_rules::{AxisPairs, Side, Unequal};
 use tris::Tri;
 
 // Have both faces their weights?
-fn both_weigh(t0: &Tri, t1: &Tri, q0: Vec2, q1: Vec2) -> bool
-    ensures { result ≡ (present (world_in (point2 q0) (some (projected_in t0.now))) && present (world_in (point2 q1) (some (projected_in t1.now)))) }
+fn both_weigh(t0: Tri, t1: Tri, q0: Vec2, q1: Vec2) -> bool
+    ensures { result ≡ (present (world_in (point2 q0) (some (projected_in t0))) && present (world_in (point2 q1) (some (projected_in t1)))) }
 {
     t0.has_world(q0) && t1.has_world(q1)
 }
 
 // Question 9 of an intersection. The weights come first: where both are there, the normals need no root.
 #[tactic(auto, using(crate::proofs::Cases::either), unfolding(crate::specs::Steps::crossing_answered))]
-fn crossing_ok(axis: Axis, t0: &Tri, t1: &Tri, q0: Vec2, q1: Vec2) -> bool
-    ensures { result ≡ crossing_answered axis.down (projected_in t0.now) (projected_in t1.now) (point2 q0) (point2 q1) }
+fn crossing_ok(axis: Axis, t0: Tri, t1: Tri, q0: Vec2, q1: Vec2) -> bool
+    ensures { result ≡ crossing_answered axis.down (projected_in t0) (projected_in t1) (point2 q0) (point2 q1) }
 {
     both_weigh(t0, t1, q0, q1) || crossings::skipped(axis, t0.unormal_pix(), t1.unormal_pix())
 }
@@ -59,7 +59,7 @@ fn between_ok(pairs: &AxisPairs, first: Side, second: Side) -> bool
     let t0 = Tri::new(&pairs.view.mesh, pairs.view.m, first.face);
     let t1 = Tri::new(&pairs.view.mesh, pairs.view.m, second.face);
     match (t1.is_inside(first.centre), t0.is_inside(second.centre)) {
-        (true, true) => crossing_ok(pairs.axis, &t0, &t1, first.centre, second.centre),
+        (true, true) => crossing_ok(pairs.axis, t0, t1, first.centre, second.centre),
         (true, false) => t0.has_world(first.centre),
         (false, true) => t1.has_world(second.centre),
         (false, false) => true,
