@@ -28,19 +28,6 @@ use Rattle.blocks.proofs.Going.{up_to_is, up_to_end, Going, going_first, going_n
 
 -- ---- none of four can be greater
 
--- what is left has its length
-pub spans_greater : (os : ℕ → List Cell) (p : ℕ) (z : Float) (l : Layer) {new : Layer} {n : ℕ} → Spans l n → new ≡ if_greater os p z l → Spans new n
-unfolding if_greater
-spans_greater os p z l {new} {n} s e = rw e (go (lt (at l p).depth z))
-  where
-    go : (b : Bool) → Spans (cond b (visited os (p ∷ []) l) l) n
-    go true = spans-visited os (p ∷ []) l n s
-    go false = s
-
-pub spans_two : (os : ℕ → List Cell) (w ix iy : ℕ) (z0 z1 : Float) (l : Layer) {new : Layer} {n : ℕ} → Spans l n → new ≡ two_if_greater os w ix iy z0 z1 l → Spans new n
-unfolding two_if_greater
-spans_two os w ix iy z0 z1 l s e = spans_greater os ((iy + 1) * w + ix) z1 _ (spans_greater os (iy * w + ix) z0 l s refl) e
-
 module _ (os : ℕ → List Cell) where
   left_out : (p : ℕ) (z : Float) (l : Layer) → lt lowest z ≡ false → l ≡ if_greater os p z l
   unfolding if_greater

@@ -121,7 +121,7 @@ pub fn visit_four(layer: &mut LayerMut, b: &Brush, p: Pixel, y1: usize, q: Vec2)
     let q1 = q.y + 1.0;
     let q2 = q.y + 2.0;
     let q3 = q.y + 3.0;
-    let z0 = lanes::lane(b.screen, b.side, Vec2 { x: q.x, y: q.y });
+    let z0 = lanes::lane(b.screen, b.side, q);
     let z1 = lanes::lane(b.screen, b.side, Vec2 { x: q.x, y: q1 });
     let z2 = lanes::lane(b.screen, b.side, Vec2 { x: q.x, y: q2 });
     let z3 = lanes::lane(b.screen, b.side, Vec2 { x: q.x, y: q3 });

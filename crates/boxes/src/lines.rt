@@ -33,6 +33,7 @@ pub struct Span {
     pub end: usize,
 }
 
+// The lesser and the greater as the document compares, NaN included: the library's `min` and `max` answer otherwise there.
 #[tactic(auto, unfolding(rules::specs::Scan::lower))]
 fn lower(a: f32, b: f32) -> f32
     ensures { result ≡ rule.lower a b }

@@ -81,7 +81,7 @@ pub fn coefficient0(axis: Axis, n0: Vec3, n1: Vec3) -> f32
     n1.z / denominator(axis, n0, n1)
 }
 
-// The second share's.
+// The second share's, which the document defines by itself.
 #[tactic(auto, unfolding(crate::specs::Crossing::coefficient1))]
 pub fn coefficient1(axis: Axis, n0: Vec3, n1: Vec3) -> f32
     ensures { result ≡ spec.coefficient1 axis.down (point3 n0) (point3 n1) }

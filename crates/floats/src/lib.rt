@@ -1,6 +1,7 @@
 // Float tools: narrowing f64 to f32, and the length of a pair. Each answers every bit pattern. A
 // positive value is kept as q * 2^k times the smallest value of its format, so that k is the
-// exponent's field less one, and 0 for a subnormal.
+// exponent's field less one, and 0 for a subnormal. What the library's casts do rests on the
+// processor; here it is proved.
 #![tactic(auto)]
 
 ghost use Rattle.std.specs.Prelude.{◌≡◌, ◌*◌, ◌^◌, ◌<◌};

@@ -7,7 +7,8 @@ ghost use Rattle.geometry.specs.Answer.{point2};
 ghost use Rattle.pixels.specs.Edge as edge;
 ghost use Rattle.grids.specs.Cell as spec;
 ghost use Rattle.grids.specs.Grid as grid;
-ghost use Rattle.grids.specs.Steps.{stand_of, axis_of, Below};
+ghost use Rattle.pixels.specs.Answer.{axis_of};
+ghost use Rattle.grids.specs.Steps.{stand_of, Below};
 
 use geometry::Vec2;
 use pixels::{Axis, ImageSize};

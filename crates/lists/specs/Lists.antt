@@ -3,6 +3,8 @@ use Rattle.std.specs.Prelude.{ℕ, zero, suc, ◌+◌, Bool, cond}
 use Rattle.std.specs.List as list
 use mathlib.Core.List.{List, [], ◌∷◌, map, sum}
 
+-- (`tabulate`, `span`, `sum_of` and `count` are not the recursions of the library's words, which go by `+ 1` and from the left.)
+
 -- f at n numbers in a row, from p on
 unfoldable pub tabulate {ℓ} : {A : Type ℓ} → (ℕ → A) → ℕ → ℕ → List A
 tabulate f p zero = []

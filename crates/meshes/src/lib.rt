@@ -125,7 +125,7 @@ impl Mesh<'_> {
     }
 }
 
-// Vertex number v of any vertex slice that has it.
+// Vertex number v of any vertex slice that has it: beside the method, since it asks less than a mesh says.
 #[tactic(auto, unfolding(crate::specs::Mesh::vertex_at))]
 pub fn vertex(vtx2xyz: &[f32], v: usize) -> Vec3
     requires { 3 * v + 2 < length vtx2xyz.now }

@@ -2,13 +2,11 @@
 use Rattle.meshes.specs.View.{view_of}
 use Rattle.meshes.specs.declared.View.{View}
 use Rattle.pixels.specs.Edge as Edge
-use Rattle.pixels.specs.Edge.{axis, edge_from}
+use Rattle.pixels.specs.Edge.{edge_from}
+pub use Rattle.pixels.specs.Answer.{axis_of}
 use Rattle.pixels.specs.declared.Axis.{Axis}
 use Rattle.pixels.specs.declared.Pixel.{Pixel}
 use Rattle.pairs.specs.Pairs.{EdgeView, edge_view}
-
-abbrev pub axis_of : Axis → Edge.Axis
-axis_of a = axis a.right a.down
 
 -- the pair whose first pixel is p
 abbrev pub edge_of : Axis → Pixel → Edge.Edge

@@ -1,5 +1,5 @@
 -- Laws of the pairs.
-use Rattle.std.specs.Prelude.{ℕ, zero, suc, ◌+◌, ◌*◌, ◌/◌, ◌<◌, ◌≡◌, refl, Bool, true, ◌&&◌, List, ltb, Float, length}
+use Rattle.std.specs.Prelude.{ℕ, zero, suc, ◌+◌, ◌-◌, ◌*◌, ◌/◌, ◌<◌, ◌≡◌, refl, Bool, true, ◌&&◌, List, ltb, Float, length}
 use Rattle.std.proofs.Math.Bool.{or-true}
 use Rattle.std.proofs.Common.{sym, ◌∙◌, ap, ap₂, add-zero, zero-add, zero-mul, arith, ne_eqb}
 use Rattle.std.proofs.lemmas.List.Folds.{list_all-append}
@@ -12,14 +12,14 @@ use Rattle.lists.specs.Laws.Every.{every_any, every_one, all_pass}
 use Rattle.meshes.specs.View.{entry_at, named, view_of}
 use Rattle.meshes.specs.Sound.{SoundMap}
 use Rattle.pixels.specs.Edge.{Axis, Edge, edge_count, edge_from, edge_at, per_row, rows}
-use Rattle.pixels.specs.Laws.{row-at, column-at}
+use Rattle.pixels.specs.Laws.{row-at, column-at, Walked, in_row, in_column}
 use Rattle.inside.specs.Inside.{projects}
 use Rattle.inside.specs.Laws.{entry-projects}
 use Rattle.inside.specs.Steps.{all_project}
 use Rattle.pairs.specs.declared.Pair.{Pair}
 use Rattle.pairs.specs.Pairs.{EdgeView, edge_view, first_of, second_of, equal_entries, answered, all_answered}
 use Rattle.pairs.specs.Gradient.{PixelValues, exact_pixels}
-use Rattle.pairs.specs.Steps.{SoundValues, PairAt, row_passes}
+use Rattle.pairs.specs.Steps.{SoundValues, Within, PairAt, row_passes}
 
 -- question 4 of the map, the values and the gradients, answered yes
 pub pixels_exact : (w h : ℕ) (map : List ℕ) (v : PixelValues) → Channels v.channels → exact_pixels w h map v ≡ true → (length map ≡ w * h) × SoundValues v (w * h)
@@ -103,3 +103,7 @@ pub both-project : (tri : List ℕ) (m xyz : List Float) {map : List ℕ} {w h :
 unfolding answered
 both-project tri m xyz {map} {w} {h} {e} {r} k ne a =
     both (projects m xyz (named tri r.first)) _ (rw (← k.first_entry, ← k.second_entry, ne_eqb _ _ ne) at a)
+
+-- the pair at place i of an axis's walk lies in the image
+pub within-at : {i x y : ℕ} (w h right down : ℕ) → Walked (w - right) i x y → i < (h - down) * (w - right) → Within w h right down x y
+within-at w h right down k l = record { column = omega (arith, in_row (h - down) k l); row = omega (arith, in_column (h - down) k l) }

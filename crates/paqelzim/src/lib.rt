@@ -1,5 +1,6 @@
 // The public calls, each under the name that C calls it by: every function here, and nothing else. Each passes
-// its arguments on, and promises what the callee's definition says. `paqelzim_c` exports them.
+// its arguments on, and promises what the callee's definition says. `paqelzim_c` exports them:
+// a static library cannot be listed by a crate, and a Rattle program lists this one.
 #![tactic(auto)]
 
 ghost use Rattle.std.specs.Prelude.{◌≡◌};

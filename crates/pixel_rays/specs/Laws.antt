@@ -1,12 +1,17 @@
 -- A pixel as the loops meet it: its entry, and its ray.
-use Rattle.std.specs.Prelude.{ℕ, ◌+◌, ◌*◌, ◌<◌, ◌≡◌, List, Float, get_or}
+use Rattle.std.specs.Prelude.{ℕ, ◌+◌, ◌*◌, ◌<◌, ◌≡◌, refl, Bool, true, false, cond, eqb, List, [], ◌∷◌, Float, get_or}
+use Rattle.std.proofs.Math.Option.{Option, none, some}
+use Rattle.lists.specs.Lists.{every, span}
+use Rattle.questions.specs.Questions.{empty}
+use Rattle.rays.specs.Space.{Ray}
+use Rattle.meshes.specs.Mesh.{face_at}
 use Rattle.std.proofs.Common.{arith}
 use Rattle.pixels.specs.Laws.{row-at, column-at, number_below}
 use Rattle.rays.specs.Pixel.{pixel_ray, ray_at, column_at, row_at}
-use Rattle.meshes.specs.View.{entry_at}
+use Rattle.meshes.specs.View.{entry_at, named, view_of}
 use Rattle.meshes.specs.Sound.{SoundMap}
 use Rattle.meshes.specs.Laws.{entry_read}
-use Rattle.pixel_rays.specs.Rays.{image, ray_of}
+use Rattle.pixel_rays.specs.Rays.{Image, image, ray_of, answered, rays_answer}
 
 -- the entry that is read is the one that the view sees
 pub entry_seen : {tri map : List ℕ} {xyz : List Float} {w h x y : ℕ} → SoundMap tri xyz map w h → x < w → y < h → get_or map (y * w + x) 0 ≡ entry_at map (y * w + x)
@@ -17,3 +22,22 @@ entry_seen {tri} {map} {xyz} {w} {h} {x} {y} s inside below =
 pub ray_seen : (w h : ℕ) (m : List Float) (iy ix : ℕ) → ix < w → ray_of (image w h m) (iy * w + ix) ≡ ray_at m (column_at w ix) (row_at h iy)
 unfolding ray_of pixel_ray
 ray_seen w h m iy ix l = rw (row-at w iy ix l, column-at w iy ix l)
+
+-- of a map question 8 asks which pixels are empty, and nothing of its faces
+module _ (g : Image) (tri tri' map : List ℕ) where
+  one_pixel : (p : ℕ) → answered ((view_of tri map).at p) (ray_of g p) ≡ answered ((view_of tri' map).at p) (ray_of g p)
+  unfolding named answered
+  one_pixel p = go (eqb (entry_at map p) empty) (ray_of g p)
+    where
+      go : (b : Bool) (r : Option (Ray Float)) → answered (cond b none (some (face_at tri (entry_at map p)))) r ≡ answered (cond b none (some (face_at tri' (entry_at map p)))) r
+      go true r = refl
+      go false none = refl
+      go false (some r) = refl
+
+  pub any_faces : rays_answer g (view_of tri map) ≡ rays_answer g (view_of tri' map)
+  unfolding rays_answer
+  any_faces = go (span 0 (g.w * g.h))
+    where
+      go : (ps : List ℕ) → every (λ p. answered ((view_of tri map).at p) (ray_of g p)) ps ≡ every (λ p. answered ((view_of tri' map).at p) (ray_of g p)) ps
+      go [] = refl
+      go (p ∷ ps) = rw (one_pixel p, go ps)

@@ -2,9 +2,10 @@
 // Nothing here writes, and no function here is a public call.
 #![tactic(auto)]
 
-ghost use Rattle.std.specs.Prelude.{◌≡◌, ◌*◌, ◌/◌, ◌<◌, length, IfSome};
+ghost use Rattle.std.specs.Prelude.{◌≡◌, List, ℕ, ◌*◌, ◌/◌, ◌<◌, length, IfSome};
 ghost use Rattle.lists.specs.Lists.{every, span};
 ghost use Rattle.meshes.specs.Mesh.{Among};
+ghost use Rattle.meshes.specs.View.{view_of};
 ghost use Rattle.meshes.specs.Answer.{face_of, maybe_face};
 ghost use Rattle.rays.specs.Pixel.{row_at};
 ghost use Rattle.rays.specs.Answer.{pixel_ray_of};
@@ -62,9 +63,9 @@ fn row_ok(view: &View, iy: usize) -> bool
     true
 }
 
-// Question 8.
+// Question 8. It is the same for any faces: of the map it asks which pixels are empty.
 pub fn rays_ok(view: &View) -> bool
-    ensures { result ≡ rays_answer (image_of view.now) (shown view.now) }
+    ensures { (tri : List ℕ) → result ≡ rays_answer (image_of view.now) (view_of tri view.now.pix2tri.now) }
 {
     for iy in 0..view.size.h {
         if !row_ok(view, iy) {

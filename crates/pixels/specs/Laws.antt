@@ -7,6 +7,8 @@ use Rattle.lists.specs.Lists.{span, count}
 use Rattle.lists.specs.Laws.Sums.{count_add, count_same, count_alike}
 use Rattle.pixels.specs.Edge.{Axis, edge_from, edge_at, per_row, rows, edge_count}
 
+-- A walk from place to place, which no code takes any more: its laws stand, as they say what a row and its pixels are in one number.
+
 -- (x', y') comes after (x, y), in rows of n
 pub record Follows (n x y x' y' : ℕ) : Type 0 where
   pub column : x' < n

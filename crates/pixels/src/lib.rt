@@ -46,6 +46,7 @@ impl ImageSize {
     }
 }
 
+// (Beside the method, since it asks less than an image's size and an axis say.)
 // How many pairs of pixels an image has whose second lies so many columns to the right and so many rows down.
 #[tactic(auto, using(crate::specs::Laws::edges_few))]
 pub fn edge_count(img_w: usize, img_h: usize, right: usize, down: usize) -> usize

@@ -1,6 +1,6 @@
 // Square roots of f32 and f64. Each answers every bit pattern. A positive value is kept as q * 2^k
 // times the smallest value of its format, so that k is the exponent's field less one, and 0 for a
-// subnormal.
+// subnormal. The library has a root of the processor's; that this one is IEEE 754's is proved here.
 #![tactic(auto)]
 
 ghost use Rattle.std.specs.Prelude.{◌≡◌, ◌*◌, ◌/◌, ◌^◌, ◌≤◌, ◌<◌};

@@ -20,17 +20,10 @@ use Rattle.sequences.proofs.TwoRuns.{two_runs}
 rest : (n : ℕ) (xs : List ℕ) → take (length xs - n) (drop n xs) ≡ drop n xs
 rest n xs = ap (λ (k : ℕ). take k (drop n xs)) (sym (length-drop n xs)) ∙ take-length (drop n xs)
 
-abbrev left_by : Outcome Layer → Layer
-left_by o = o.left
-
 module _ (tri : List ℕ) (xyz : List Float) (w h : ℕ) (m : List Float) (facing : ℕ) where
   -- a run's layer
   abbrev run : Layer → List ℕ → ℕ → Layer
   run l t first = (draws (clearing l w h).left t xyz w h m first facing).left
-
-  pub run-drawn : (old : Layer) (first : ℕ) {code code' : ℕ} {mid new : Layer} → outcome code mid ≡ clearing old w h → outcome code' new ≡ draws mid tri xyz w h m first facing
-      → new ≡ (draws (clearing old w h).left tri xyz w h m first facing).left
-  run-drawn old first e e' = ap left_by e' ∙ ap (λ (l : Layer). (draws l tri xyz w h m first facing).left) (ap left_by e)
 
   module _ (accepted : draw_code (cleared (w * h)) tri xyz w h 0 ≡ 0) where
     -- the faces can be counted in 32 bits

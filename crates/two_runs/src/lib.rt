@@ -12,6 +12,8 @@ ghost use Rattle.sequences.specs.Whole.{cleared};
 
 use questions::Refusal;
 
+// `facing` is a number in both, as in the drawing's call.
+
 // Clears a layer and draws a run of a mesh's faces on it, numbered from `first`. A refused call leaves what it was lent, so it is not asked what they answer.
 fn draw_run(
     pix2tri: &mut [u32],

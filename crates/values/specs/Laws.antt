@@ -2,7 +2,7 @@
 use Prim.Native.Nat.{ℕ, ◌+◌, ◌≤◌}
 use Rattle.std.specs.Prelude.{◌≡◌, Float, length}
 use Rattle.std.proofs.Math.Path.{sym, ap, ap₂}
-use Rattle.std.proofs.Common.{◌∙◌, add-zero, zero-add, le_of_eq, length-take-le, take_at, get_or-append-add}
+use Rattle.std.proofs.Common.{◌∙◌, add-zero, zero-add, le_of_eq, length-drop, length-take-le, take_at, get_or-append-add}
 use mathlib.Core.List.{List, ◌++◌, append_assoc, append-nil}
 use native.Mathlib.Omega.{arith}
 use Rattle.std.specs.Float.Ieee.{nan}
@@ -69,3 +69,6 @@ module _ (F : ℕ → Float → Float) where
     -- the next m places
     pub filled_more : (m : ℕ) → filled F (a + n) m (filled F a n xs) ≡ filled F a (n + m) xs
     filled_more m = ap (filled F (a + n) m) filled_is ∙ next m
+
+    pub length-filled : length (filled F a n xs) ≡ length xs
+    length-filled = ap length filled_is ∙ length-append head (drop (a + n) xs) ∙ ap₂ ◌+◌ length_head (length-drop (a + n) xs) ∙ omega arith

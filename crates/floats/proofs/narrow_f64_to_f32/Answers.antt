@@ -26,7 +26,7 @@ returns-then-field-eq2047 c =
     let x = c.args.x in
     c.pack_f32.ensures
     ∙ infinite (leb (2 ^ 63) (to_bits binary64 x))
-    ∙ ap narrow (sym (top_value x (held x c.well_formed.0.1) (law.number x (sym c.if-is_nan.false ∙ c.is_nan.ensures.value)) c.if-field-eq2047.true))
+    ∙ ap narrow (sym (top_value x (held x c.well_formed.0.1) (law.not_nan x (sym c.if-is_nan.false ∙ c.is_nan.ensures.value)) c.if-field-eq2047.true))
 
 pub returns-then-field-eq0 : goal.returns-then-field-eq0
 returns-then-field-eq0 c =

@@ -24,7 +24,7 @@ returns-then-b-eq0 c =
 pub returns-then-b-gt2139095040 : goal.returns-then-b-gt2139095040
 returns-then-b-gt2139095040 c =
     let held : T (fits binary32 c.args.x) = subst T (sym c.well_formed.0.1) tt in
-    square_root binary32 c.args.x _ held (law.quiet binary32 ∙ root-minus binary32 _ held (law.number c.args.x (sym c.if-is_nan.false ∙ c.is_nan.ensures.value)) c.if-b-eq0.false c.if-b-gt2139095040.true)
+    square_root binary32 c.args.x _ held (law.quiet binary32 ∙ root-minus binary32 _ held (law.not_nan c.args.x (sym c.if-is_nan.false ∙ c.is_nan.ensures.value)) c.if-b-eq0.false c.if-b-gt2139095040.true)
 
 pub overflow_cast-result : goal.overflow_cast-result
 overflow_cast-result c =

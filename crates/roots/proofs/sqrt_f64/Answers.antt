@@ -24,7 +24,7 @@ returns-then-b-eq0 c =
 pub returns-then-b-gt9218868437227405312 : goal.returns-then-b-gt9218868437227405312
 returns-then-b-gt9218868437227405312 c =
     let held : T (fits binary64 c.args.x) = subst T (sym c.well_formed.0.1) tt in
-    square_root binary64 c.args.x _ held (law.quiet binary64 ∙ root-minus binary64 _ held (law.number c.args.x (sym c.if-is_nan.false ∙ c.is_nan.ensures.value)) c.if-b-eq0.false c.if-b-gt9218868437227405312.true)
+    square_root binary64 c.args.x _ held (law.quiet binary64 ∙ root-minus binary64 _ held (law.not_nan c.args.x (sym c.if-is_nan.false ∙ c.is_nan.ensures.value)) c.if-b-eq0.false c.if-b-gt9218868437227405312.true)
 
 pub float_from_bits-result : goal.float_from_bits-result
 float_from_bits-result c =
