@@ -57,10 +57,9 @@ fn ask_edges<'a>(
         Refusal::Lengths,
     )?;
     questions::ask_naming(vtx2xyz.len() / 3, tri2vtx, pix2tri)?;
-    let mesh = Mesh { tri2vtx, vtx2xyz };
     let view = View {
         size,
-        mesh,
+        mesh: Mesh { tri2vtx, vtx2xyz },
         pix2tri,
         m: transform_world2pix,
     };
@@ -106,10 +105,9 @@ pub fn edge_gradient_and_type<'a>(
         vedge2dldr,
     )?;
     let size = ImageSize { w: img_w, h: img_h };
-    let mesh = Mesh { tri2vtx, vtx2xyz };
     let view = View {
         size,
-        mesh,
+        mesh: Mesh { tri2vtx, vtx2xyz },
         pix2tri,
         m: transform_world2pix,
     };
