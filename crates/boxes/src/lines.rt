@@ -115,6 +115,7 @@ impl Lines {
     }
 
     // The centres between three coordinates in pixels, if any.
+    #[inline(always)]
     pub fn spanned(self, p: f32, q: f32, s: f32) -> Option<Span>
         ensures { MatchOption result (Unspanned p q s self.n) (λ r. Spanned p q s self.n r) }
     {

@@ -4,5 +4,4 @@ pub mod Numbers
 pub mod Pixels
 pub mod Cells
 pub mod Put
-pub mod Filled
 pub mod Kept

@@ -41,14 +41,23 @@ impl LayerMut<'_> {
     ghost use Rattle.offers.specs.Offer.{pick};
     ghost use Rattle.cells.specs.Lent.{held, lent, cell_of, SameBuffers};
 
-    // Depth −infinity, the map's entry 4294967295 and three zeros at every pixel.
+    // Depth −infinity, the map's entry 4294967295 and three zeros at every pixel, in one pass over the three buffers.
     pub fn clear(&mut self)
         ensures same { SameBuffers self.old self.new }
         ensures clear { held self.new ≡ pixelwise (self.old.size.w * self.old.size.h) (λ p. clear) }
     {
-        self.pix2tri.fill(questions::EMPTY);
-        self.pix2depth.fill(f32::NEG_INFINITY);
-        self.pix2weights.fill(0.0);
+        let clear = Cell {
+            depth: f32::NEG_INFINITY,
+            number: questions::EMPTY,
+            weights: Weights {
+                b0: 0.0,
+                b1: 0.0,
+                b2: 0.0,
+            },
+        };
+        for i in 0..self.size.pixels() {
+            self.write(i, clear);
+        }
     }
 
     // A cell at pixel p.

@@ -110,6 +110,7 @@ impl Grid<'_> {
 
     // The value at a point of the image, less the offsets of an edge.
     #[tactic(auto, unfolding(crate::specs::Grid::sample))]
+    #[inline(always)]
     pub fn sample(&self, p: Vec2) -> f32
         ensures { result ≡ grid.sample (axis_of self.now.axis) self.now.size.w self.now.size.h self.now.values.now (point2 p) }
     {

@@ -1,20 +1,20 @@
--- `LayerMut::clear`: three buffers filled are a layer of clear pixels.
-use Rattle.std.specs.Prelude.{ℕ, replicate}
-use Rattle.std.proofs.Common.{◌∙◌, ap}
+-- `LayerMut::clear`: one pixel more is clear at each turn.
+use Rattle.std.proofs.Common.{arith}
 use lib.Ieee.{of_bits}
-use Rattle.geometry.specs.Arith.{floats}
-use Rattle.questions.specs.Questions.{empty}
-use Rattle.offers.specs.Offer.{lowest}
-use Rattle.cells.proofs.Laws.Cells.{same_buffers}
-use Rattle.cells.proofs.Laws.Filled.{cleared}
+use Rattle.cells.proofs.Laws.Kept.{same_none, same_then}
+use Rattle.cells.proofs.Laws.Pixels.{turned_none, turned_more, turned_all}
 use Rattle.cells.proofs.buffers.LayerMut.clear.Goals as goal
 
-pub returns-clause-clear : goal.returns-clause-clear
+pub loop-i-init : goal.loop-i-init
+loop-i-init c = (same_none _, turned_none _ _ _ c.args.self.now.spans)
+
+pub write-requires : goal.write-requires
+write-requires c = let s = c.loop-i.invariant.0 in rw (← s.width, ← s.height) (omega (arith, c.pixels-i-end.ensures.count, c.loop-i-test.true))
+
+pub loop-i-preserved : goal.loop-i-preserved
 unfolding of_bits
-returns-clause-clear c =
-    let spans = c.args.self.now.spans in
-    same_buffers
-    (c.fill.ensures.after (λ y e. e) ∙ ap (λ (n : ℕ). replicate n empty) spans.numbers)
-    (c.fill-2.ensures.after (λ y e. e) ∙ ap (λ (n : ℕ). replicate n lowest) spans.depths)
-    (c.fill-3.ensures.after (λ y e. e) ∙ ap (λ (n : ℕ). replicate n floats.zero) spans.weights)
-    ∙ cleared _
+loop-i-preserved c =
+    (same_then c.loop-i.invariant.0 c.write.ensures.same, turned_more _ _ _ c.args.self.now.spans c.loop-i.i (omega (arith, c.pixels-i-end.ensures.count, c.loop-i-test.true)) c.loop-i.invariant.1 c.write.ensures.written)
+
+pub returns-clause-clear : goal.returns-clause-clear
+returns-clause-clear c = turned_all _ _ _ c.args.self.now.spans c.loop-i.i (omega (arith, c.pixels-i-end.ensures.count, c.loop-i-test.false)) c.loop-i.invariant.1
