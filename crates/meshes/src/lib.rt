@@ -5,6 +5,7 @@ ghost use Rattle.std.specs.Prelude.{◌≡◌, true, ◌+◌, ◌*◌, ◌/◌, 
 ghost use Rattle.questions.specs.Questions.{names_face};
 ghost use Rattle.geometry.specs.Answer.{point3, corners_of, projections_of};
 ghost use Rattle.meshes.specs.Mesh.{face_at, vertex_at, corners_at, project_face, Among};
+ghost use Rattle.meshes.specs.Answer.{face_of};
 ghost use Rattle.meshes.specs.Sound.{SoundMesh, SoundMap};
 ghost use Rattle.meshes.specs.View.{named};
 ghost use Rattle.meshes.specs.Sums.{added, addition};
@@ -40,8 +41,6 @@ pub struct View<'a> {
 }
 
 impl View<'_> {
-    ghost use Rattle.meshes.specs.Answer.{face_of, maybe_face};
-
     // The map's entry of a pixel.
     #[tactic(auto, using(crate::specs::Laws::entry_named))]
     pub fn entry(&self, p: Pixel) -> u32
@@ -55,7 +54,7 @@ impl View<'_> {
 }
 
 impl Mesh<'_> {
-    ghost use Rattle.meshes.specs.Answer.{face_of, maybe_face};
+    ghost use Rattle.meshes.specs.Answer.{maybe_face};
 
     // The face that a map's entry names, none for an empty one.
     #[tactic(auto, using(questions::specs::Laws::face_below), unfolding(crate::specs::View::named))]
@@ -77,55 +76,54 @@ impl Mesh<'_> {
     }
 
     // Face number i.
-    #[tactic(auto, using(crate::specs::Laws::corners_there), unfolding(crate::specs::Mesh::face_at))]
+    #[tactic(auto, using(crate::specs::Laws::corners_there))]
     pub fn face(&self, i: usize) -> Face
         requires { i < length self.now.tri2vtx.now / 3 }
         ensures face { face_of result ≡ face_at self.now.tri2vtx.now i }
         ensures among { Among (length self.now.vtx2xyz.now / 3) (face_of result) }
     {
-        let k = 3 * i;
-        Face {
-            v0: self.tri2vtx[k] as usize,
-            v1: self.tri2vtx[k + 1] as usize,
-            v2: self.tri2vtx[k + 2] as usize,
-        }
-    }
-
-    // Vertex number v.
-    pub fn vertex(&self, v: usize) -> Vec3
-        requires { v < length self.now.vtx2xyz.now / 3 }
-        ensures { point3 result ≡ vertex_at self.now.vtx2xyz.now v }
-    {
-        vertex(self.vtx2xyz, v)
+        face_at(self.tri2vtx, i)
     }
 
     // The corners of a face.
-    #[tactic(auto, unfolding(crate::specs::Mesh::corners_at))]
     pub fn corners(&self, f: Face) -> Triangle<Vec3>
         requires { Among (length self.now.vtx2xyz.now / 3) (face_of f) }
         ensures { corners_of result ≡ corners_at self.now.vtx2xyz.now (face_of f) }
     {
-        Triangle {
-            p0: self.vertex(f.v0),
-            p1: self.vertex(f.v1),
-            p2: self.vertex(f.v2),
-        }
+        corners(self.vtx2xyz, f)
     }
 
     // The corners of a face as the matrix takes them, in normalised device coordinates, none where one of them has no projection.
+    #[inline(always)]
     #[tactic(auto, unfolding(crate::specs::Mesh::project_face, crate::specs::Mesh::all_three))]
     pub fn project(&self, m: &[f32; 16], f: Face) -> Option<Triangle<Projected>>
         requires { Among (length self.now.vtx2xyz.now / 3) (face_of f) }
         ensures { projections_of result ≡ project_face m.now self.now.vtx2xyz.now (face_of f) }
     {
-        let p0 = geometry::project(m, self.vertex(f.v0))?;
-        let p1 = geometry::project(m, self.vertex(f.v1))?;
-        let p2 = geometry::project(m, self.vertex(f.v2))?;
+        let p0 = geometry::project(m, vertex(self.vtx2xyz, f.v0))?;
+        let p1 = geometry::project(m, vertex(self.vtx2xyz, f.v1))?;
+        let p2 = geometry::project(m, vertex(self.vtx2xyz, f.v2))?;
         Some(Triangle { p0, p1, p2 })
     }
 }
 
-// Vertex number v of any vertex slice that has it: beside the method, since it asks less than a mesh says.
+// The three below read any slice that is long enough: they ask less than a mesh says.
+
+// Face number i.
+#[tactic(auto, unfolding(crate::specs::Mesh::face_at))]
+pub fn face_at(tri2vtx: &[u32], i: usize) -> Face
+    requires { 3 * i + 2 < length tri2vtx.now }
+    ensures { face_of result ≡ face_at tri2vtx.now i }
+{
+    let k = 3 * i;
+    Face {
+        v0: tri2vtx[k] as usize,
+        v1: tri2vtx[k + 1] as usize,
+        v2: tri2vtx[k + 2] as usize,
+    }
+}
+
+// Vertex number v.
 #[tactic(auto, unfolding(crate::specs::Mesh::vertex_at))]
 pub fn vertex(vtx2xyz: &[f32], v: usize) -> Vec3
     requires { 3 * v + 2 < length vtx2xyz.now }
@@ -136,6 +134,19 @@ pub fn vertex(vtx2xyz: &[f32], v: usize) -> Vec3
         x: vtx2xyz[k],
         y: vtx2xyz[k + 1],
         z: vtx2xyz[k + 2],
+    }
+}
+
+// The corners of a face.
+#[tactic(auto, unfolding(crate::specs::Mesh::corners_at))]
+pub fn corners(vtx2xyz: &[f32], f: Face) -> Triangle<Vec3>
+    requires { Among (length vtx2xyz.now / 3) (face_of f) }
+    ensures { corners_of result ≡ corners_at vtx2xyz.now (face_of f) }
+{
+    Triangle {
+        p0: vertex(vtx2xyz, f.v0),
+        p1: vertex(vtx2xyz, f.v1),
+        p2: vertex(vtx2xyz, f.v2),
     }
 }
 

@@ -2,13 +2,11 @@
 use Rattle.std.specs.Prelude.{ℕ, zero, suc, ◌+◌, ◌-◌, ◌*◌, ◌/◌, ◌<◌, ◌≡◌, refl, Bool, true, ◌&&◌, List, ltb, Float, length}
 use Rattle.std.proofs.Math.Bool.{or-true}
 use Rattle.std.proofs.Common.{sym, ◌∙◌, ap, ap₂, add-zero, zero-add, zero-mul, arith, ne_eqb}
-use Rattle.std.proofs.lemmas.List.Folds.{list_all-append}
 use Rattle.lists.specs.Lists.{tabulate, span, every}
-use Rattle.lists.specs.Laws.Tables.{tabulate-add}
 use Rattle.questions.specs.Questions.{exact, names_face, empty}
 use Rattle.questions.specs.Laws.{Channels, exactly}
 use Rattle.lists.specs.Laws.Tests.{both}
-use Rattle.lists.specs.Laws.Every.{every_any, every_one, all_pass}
+use Rattle.lists.specs.Laws.Every.{every_any, every_one, every_same, every-add, all_pass}
 use Rattle.meshes.specs.View.{entry_at, named, view_of}
 use Rattle.meshes.specs.Sound.{SoundMap}
 use Rattle.pixels.specs.Edge.{Axis, Edge, edge_count, edge_from, edge_at, per_row, rows}
@@ -36,21 +34,6 @@ pub edge_in_row : (a : Axis) (w x y : ℕ) → x < per_row a w → edge_at a w (
 unfolding edge_at
 edge_in_row a w x y h = ap₂ (edge_from a) (column-at (per_row a w) y x h) (row-at (per_row a w) y x h)
 
--- two tests that agree, from a on and from b on
-every_same : (t u : ℕ → Bool) (a b n : ℕ) → ((i : ℕ) → i < n → t (a + i) ≡ u (b + i)) → every t (span a n) ≡ every u (span b n)
-unfolding tabulate
-every_same t u a b zero e = refl
-every_same t u a b (suc n) e =
-    ap₂ ◌&&◌ (ap t (sym (add-zero a)) ∙ e 0 (omega arith) ∙ ap u (add-zero b))
-    (every_same t u (suc a) (suc b) n
-    (λ i h.
-    let k : suc a + i ≡ a + suc i = omega arith in
-    let l : b + suc i ≡ suc b + i = omega arith in
-    ap t k ∙ e (suc i) (omega arith) ∙ ap u l))
-
-every_both : (t : ℕ → Bool) (a n m : ℕ) → every t (span a (n + m)) ≡ every t (span a n) && every t (span (a + n) m)
-every_both t a n m = ap (every t) (tabulate-add (λ i. i) a n m) ∙ list_all-append t (span a n) (span (a + n) m)
-
 module _ (test : Edge → Bool) (a : Axis) (w : ℕ) where
   row-passes : (y : ℕ) → every (λ i. test (edge_at a w i)) (span (0 + y * per_row a w) (per_row a w)) ≡ row_passes test a w y
   unfolding row_passes
@@ -69,9 +52,9 @@ module _ (test : Edge → Bool) (a : Axis) (w : ℕ) where
       let e : suc m * n ≡ m * n + n = omega arith in
       let f : suc m ≡ m + 1 = omega arith in
       ap (λ (k : ℕ). every (λ i. test (edge_at a w i)) (span 0 k)) e
-      ∙ every_both (λ i. test (edge_at a w i)) 0 (m * n) n
+      ∙ every-add (λ i. test (edge_at a w i)) 0 (m * n) n
       ∙ ap₂ ◌&&◌ (by_rows m) (row-passes m ∙ sym (every_one (row_passes test a w) m) ∙ ap (λ (k : ℕ). every (row_passes test a w) (span k 1)) (sym (zero-add m)))
-      ∙ sym (every_both (row_passes test a w) 0 m 1)
+      ∙ sym (every-add (row_passes test a w) 0 m 1)
       ∙ ap (λ (k : ℕ). every (row_passes test a w) (span 0 k)) (sym f)
 
 pub answered_by_rows : (a : Axis) (h : ℕ) (s : EdgeView) → all_answered a h s ≡ every (row_passes (answered s) a s.width) (span 0 (rows a h))

@@ -1,9 +1,10 @@
 -- A test of every number of a list, or of numbers in a row, as a loop asks it.
 use Rattle.std.specs.Prelude.{ℕ, zero, suc, ◌+◌, ◌-◌, ◌*◌, ◌≤◌, ◌<◌, ◌≡◌, Bool, true, false, ◌&&◌, length, drop, get_or}
-use Rattle.std.proofs.Math.Path.{refl, sym, ap}
-use Rattle.std.proofs.Common.{◌∙◌, zero-add, mul_comm, mul-le-mul_right, not-suc-le-zero, le_of_suc-le-suc, add-one, arith, drop_of_length-le, drop-cons}
+use Rattle.std.proofs.Math.Path.{refl, sym, ap, ap₂}
+use Rattle.std.proofs.Common.{◌∙◌, add-zero, zero-add, mul_comm, mul-le-mul_right, not-suc-le-zero, le_of_suc-le-suc, add-one, arith, drop_of_length-le, drop-cons}
 use Rattle.std.proofs.Math.Bool.{and-true, and-false, and_assoc}
-use mathlib.Core.List.{List, [], ◌∷◌, ◌++◌}
+use mathlib.Core.List.{List, [], ◌∷◌}
+use Rattle.std.proofs.lemmas.List.Folds.{list_all-append}
 use Rattle.lists.specs.Lists.{tabulate, span, every}
 use Rattle.lists.specs.Laws.Tests.{both}
 use Rattle.lists.specs.Laws.Tables.{length-tabulate, get_or-tabulate, tabulate-add}
@@ -55,11 +56,19 @@ module _ (test : ℕ → Bool) (xs : List ℕ) (i : ℕ) where
 pub row_below : (w h iy : ℕ) → iy < h → iy * w + w ≤ w * h
 row_below w h iy l = let m : (iy + 1) * w ≤ h * w = mul-le-mul_right w (omega arith) in rw (mul_comm w h) (omega arith)
 
-module _ (t : ℕ → Bool) where
-  every_append : (xs ys : List ℕ) → every t (xs ++ ys) ≡ every t xs && every t ys
-  every_append [] ys = refl
-  every_append (x ∷ xs) ys = ap (λ (b : Bool). t x && b) (every_append xs ys) ∙ sym (and_assoc (t x) (every t xs) (every t ys))
+-- two tests that agree, from a on and from b on
+pub every_same : (t u : ℕ → Bool) (a b n : ℕ) → ((i : ℕ) → i < n → t (a + i) ≡ u (b + i)) → every t (span a n) ≡ every u (span b n)
+unfolding tabulate
+every_same t u a b zero e = refl
+every_same t u a b (suc n) e =
+    ap₂ ◌&&◌ (ap t (sym (add-zero a)) ∙ e 0 (omega arith) ∙ ap u (add-zero b))
+    (every_same t u (suc a) (suc b) n
+    (λ i h.
+    let k : suc a + i ≡ a + suc i = omega arith in
+    let l : b + suc i ≡ suc b + i = omega arith in
+    ap t k ∙ e (suc i) (omega arith) ∙ ap u l))
 
+module _ (t : ℕ → Bool) where
   pub every_one : (p : ℕ) → every t (span p 1) ≡ t p
   unfolding tabulate
   every_one p = and-true (t p)
@@ -68,8 +77,9 @@ module _ (t : ℕ → Bool) where
   unfolding tabulate
   every_none a = refl
 
-  every-add : (a n m : ℕ) → every t (span a (n + m)) ≡ every t (span a n) && every t (span (a + n) m)
-  every-add a n m = ap (every t) (tabulate-add (λ i. i) a n m) ∙ every_append (span a n) (span (a + n) m)
+  -- n in a row, and m more
+  pub every-add : (a n m : ℕ) → every t (span a (n + m)) ≡ every t (span a n) && every t (span (a + n) m)
+  every-add a n m = ap (every t) (tabulate-add (λ i. i) a n m) ∙ list_all-append t (span a n) (span (a + n) m)
 
   -- so far, and the next m
   pub every_more : (a n m : ℕ) → every t (span a n) ≡ true → every t (span (a + n) m) ≡ true → every t (span a (n + m)) ≡ true

@@ -8,6 +8,7 @@ use mathlib.Core.List.{List, [], ◌∷◌, ◌++◌, flat_map, append-nil}
 use Rattle.std.proofs.Math.Nat.{add-zero}
 use native.Mathlib.Omega.{arith}
 use Rattle.std.proofs.lemmas.Bool.{lt-leb}
+use Rattle.std.proofs.lemmas.List.Elements.{filter-append}
 use Rattle.std.proofs.Math.ListN.{length}
 use Rattle.lists.specs.Lists.{tabulate, span, filter, sum_of, count}
 use Rattle.lists.specs.Laws.Sums.{sum_none, sum_more, count_none, count-more, count-both, count_alike, count-from}
@@ -45,14 +46,6 @@ count_number p n = go (ltb p n) refl
 -- ---- filters
 
 module _ {A : Type 0} (test : A → Bool) where
-  filter-append : (xs ys : List A) → filter test (xs ++ ys) ≡ filter test xs ++ filter test ys
-  filter-append [] ys = refl
-  filter-append (x ∷ xs) ys = go (test x) (filter-append xs ys)
-    where
-      go : (b : Bool) → filter test (xs ++ ys) ≡ filter test xs ++ filter test ys → cond b (x ∷ filter test (xs ++ ys)) (filter test (xs ++ ys)) ≡ cond b (x ∷ filter test xs) (filter test xs) ++ filter test ys
-      go true e = ap (λ (t : List A). x ∷ t) e
-      go false e = e
-
   -- as many as pass
   pub length-filter : (xs : List A) → length (filter test xs) ≡ count test xs
   length-filter [] = sym (count_none test)
@@ -66,7 +59,7 @@ module _ {A : Type 0} (test : A → Bool) where
   pub filter-flat_map : {B : Type 0} (f : B → List A) (xs : List B) → filter test (flat_map f xs) ≡ flat_map (λ x. filter test (f x)) xs
   unfolding flat_map
   filter-flat_map f [] = refl
-  filter-flat_map f (x ∷ xs) = filter-append (f x) (flat_map f xs) ∙ ap (λ (t : List A). filter test (f x) ++ t) (filter-flat_map f xs)
+  filter-flat_map f (x ∷ xs) = filter-append test (f x) (flat_map f xs) ∙ ap (λ (t : List A). filter test (f x) ++ t) (filter-flat_map f xs)
 
   -- a table's entries that pass, one a turn
   pub filter-tabulate : (f : ℕ → A) (a n : ℕ) → filter test (tabulate f a n) ≡ flat_map (λ i. cond (test (f i)) (f i ∷ []) []) (span a n)
