@@ -3,7 +3,7 @@
 
 mod buffers;
 
-ghost use Rattle.std.specs.Prelude.{◌≡◌, true, ◌||◌, ◌+◌, ◌*◌, ◌/◌, ◌<◌, length};
+ghost use Rattle.std.specs.Prelude.{◌≡◌, true, ◌||◌, ◌+◌, ◌*◌, ◌/◌, ◌≤◌, ◌<◌, length};
 ghost use Rattle.questions.specs.Questions.{names_face};
 ghost use Rattle.geometry.specs.Answer.{point2};
 ghost use Rattle.meshes.specs.View.{named};
@@ -40,7 +40,7 @@ fn edge_type(view: &View, p: Pixel, axis: Axis) -> u8
     requires { Within view.now.size.w view.now.size.h axis.right axis.down p.x p.y }
     ensures { result ≡ type_of (seen_of view.now) (edge_of axis p) }
 {
-    let pair = pairs::pair_at(view, p, axis);
+    let pair = pairs::seen_pair(view, p, axis);
     if pair.first == pair.second {
         return 0;
     }
@@ -53,6 +53,7 @@ fn edge_type(view: &View, p: Pixel, axis: Axis) -> u8
 fn fill_row(view: &View, values: &PixelValues, buffers: &mut AxisBuffers, axis: Axis, y: usize)
     requires pixels { values.now.pixels ≡ view.now.size.w * view.now.size.h }
     requires count { length buffers.old.types.now ≡ edge_count (axis_of axis) view.now.size.w view.now.size.h }
+    requires columns { axis.right ≤ view.now.size.w }
     requires row { y + axis.down < view.now.size.h }
     ensures same { SameBuffers buffers.old buffers.new }
     ensures filled { held buffers.new ≡ row_filled (axis_of axis) y (seen_of view.now) (values_of values.now) (held buffers.old) }
@@ -60,7 +61,7 @@ fn fill_row(view: &View, values: &PixelValues, buffers: &mut AxisBuffers, axis: 
     let columns = view.size.w - axis.right;
     for x in 0..columns {
         let p = Pixel { x, y };
-        let pair = pairs::pair_at(view, p, axis);
+        let pair = pairs::pair_at(view.size, view.pix2tri, p, axis);
         let dldr = values.dldr(pair.p, pair.q);
         buffers.put(y * columns + x, edge_type(view, p, axis), dldr);
     }
@@ -68,6 +69,8 @@ fn fill_row(view: &View, values: &PixelValues, buffers: &mut AxisBuffers, axis: 
 
 // The type and `dldr` of every pair of an axis.
 pub fn fill_axis(view: &View, values: &PixelValues, buffers: &mut AxisBuffers, axis: Axis)
+    requires columns { axis.right ≤ view.now.size.w }
+    requires rows { axis.down ≤ view.now.size.h }
     requires pixels { values.now.pixels ≡ view.now.size.w * view.now.size.h }
     requires count { length buffers.old.types.now ≡ edge_count (axis_of axis) view.now.size.w view.now.size.h }
     ensures same { SameBuffers buffers.old buffers.new }

@@ -1,7 +1,7 @@
 // Edges: the public call `edge_gradient_and_type`.
 #![tactic(auto)]
 
-ghost use Rattle.std.specs.Prelude.{◌≡◌};
+ghost use Rattle.std.specs.Prelude.{◌≡◌, ◌≤◌};
 ghost use Rattle.questions.specs.Questions.{outcome};
 ghost use Rattle.questions.specs.Answer.{code_of};
 ghost use Rattle.meshes.specs.View.{view_of};
@@ -20,9 +20,11 @@ use questions::{Refusal, ask};
 // Question 4 of one axis's buffers.
 #[tactic(auto, unfolding(questions::specs::Questions::exact))]
 fn axis_ok(size: ImageSize, axis: Axis, types: &[u8], dldr: &[f32]) -> bool
+    requires columns { axis.right ≤ size.w }
+    requires rows { axis.down ≤ size.h }
     ensures { result ≡ exact_axis (axis_of axis) size.w size.h (axis_buffers types.now dldr.now) }
 {
-    let n = size.edge_count(axis);
+    let n = pixels::edge_count(size.w, size.h, axis);
     types.len() == n && dldr.len() == n
 }
 

@@ -30,7 +30,7 @@ pub fn all_inside(weights: Option<CornerWeights>) -> bool
 
 // The weights of q in the triangle of three projected corners.
 #[tactic(auto, unfolding(crate::specs::Inside::weights_in))]
-pub fn weights_in(q: Vec2, t: Triangle<Projected>) -> Option<CornerWeights>
+fn weights_in(q: Vec2, t: Triangle<Projected>) -> Option<CornerWeights>
     ensures { corner_weights_of result ≡ spec.weights_in (point2 q) (some (projected_corners t)) }
 {
     let corners = Triangle {
@@ -67,21 +67,21 @@ pub fn contains(mesh: &Mesh, m: &[f32; 16], shown: Option<Face>, q: Vec2) -> boo
 
 // Has vertex number `v` a projection?
 #[tactic(auto, unfolding(crate::specs::Inside::present))]
-fn vertex_projects(mesh: &Mesh, m: &[f32; 16], v: usize) -> bool
-    requires { v < length mesh.now.vtx2xyz.now / 3 }
-    ensures { result ≡ spec.present (project m.now (vertex_at mesh.now.vtx2xyz.now v)) }
+fn vertex_projects(vtx2xyz: &[f32], m: &[f32; 16], v: usize) -> bool
+    requires { v < length vtx2xyz.now / 3 }
+    ensures { result ≡ spec.present (project m.now (vertex_at vtx2xyz.now v)) }
 {
-    geometry::project(m, mesh.vertex(v)).is_some()
+    geometry::project(m, meshes::vertex(vtx2xyz, v)).is_some()
 }
 
 // Has every vertex a projection?
 #[tactic(auto, using(lists::specs::Laws::Every::every_none, lists::specs::Laws::Every::every_next), unfolding(crate::specs::Steps::all_project))]
-pub fn all_project(mesh: &Mesh, m: &[f32; 16]) -> bool
-    ensures { result ≡ all_project m.now mesh.now.vtx2xyz.now }
+pub fn all_project(vtx2xyz: &[f32], m: &[f32; 16]) -> bool
+    ensures { result ≡ all_project m.now vtx2xyz.now }
 {
-    let n = mesh.vtx2xyz.len() / 3;
+    let n = vtx2xyz.len() / 3;
     for v in 0..n {
-        if !vertex_projects(mesh, m, v) {
+        if !vertex_projects(vtx2xyz, m, v) {
             return false;
         }
     }

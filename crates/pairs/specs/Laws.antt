@@ -1,7 +1,7 @@
 -- Laws of the pairs.
-use Rattle.std.specs.Prelude.{ℕ, zero, suc, ◌+◌, ◌-◌, ◌*◌, ◌/◌, ◌<◌, ◌≡◌, refl, Bool, true, ◌&&◌, List, ltb, Float, length}
+use Rattle.std.specs.Prelude.{ℕ, zero, suc, ◌+◌, ◌-◌, ◌*◌, ◌/◌, ◌<◌, ◌≡◌, Bool, true, ◌&&◌, List, ltb, Float, length}
 use Rattle.std.proofs.Math.Bool.{or-true}
-use Rattle.std.proofs.Common.{sym, ◌∙◌, ap, ap₂, add-zero, zero-add, zero-mul, arith, ne_eqb}
+use Rattle.std.proofs.Common.{sym, ◌∙◌, ap, ap₂, zero-add, zero-mul, arith, ne_eqb}
 use Rattle.lists.specs.Lists.{tabulate, span, every}
 use Rattle.questions.specs.Questions.{exact, names_face, empty}
 use Rattle.questions.specs.Laws.{Channels, exactly}
@@ -68,6 +68,14 @@ empty-named n = or-true (ltb empty n)
 module _ {tri map : List ℕ} {xyz : List Float} {w h : ℕ} (s : SoundMap tri xyz map w h) where
   pixel-named : (p : ℕ) → names_face (length tri / 3) (entry_at map p) ≡ true
   pixel-named p = every_any (names_face (length tri / 3)) empty (empty-named (length tri / 3)) map s.named p
+
+  -- so do both entries of a pair
+  module _ {e : Edge} {r : Pair} (k : PairAt map w h e r) where
+    pub first_named : names_face (length tri / 3) r.first ≡ true
+    first_named = rw k.first_entry (pixel-named (first_of w e))
+
+    pub second_named : names_face (length tri / 3) r.second ≡ true
+    second_named = rw k.second_entry (pixel-named (second_of w e))
 
   -- where every vertex has a projection, question 8 is answered yes at every pair
   module _ (m : List Float) (yes : all_project m xyz ≡ true) where

@@ -25,8 +25,8 @@ pub struct Pair {
 
 // The second pixel of the pair whose first pixel is p.
 pub fn neighbour(p: Pixel, axis: Axis) -> Pixel
-    requires column { p.x ≤ 4096 }
-    requires row { p.y ≤ 4096 }
+    requires column { p.x + axis.right ≤ 4096 }
+    requires row { p.y + axis.down ≤ 4096 }
     ensures column { result.x ≡ p.x + axis.right }
     ensures row { result.y ≡ p.y + axis.down }
 {
@@ -36,21 +36,32 @@ pub fn neighbour(p: Pixel, axis: Axis) -> Pixel
     }
 }
 
-// The pair whose first pixel is p.
+// The pair of a map whose first pixel is p.
 #[tactic(auto, using(meshes::specs::Laws::entry_read))]
-pub fn pair_at(view: &View, p: Pixel, axis: Axis) -> Pair
+pub fn pair_at(size: ImageSize, pix2tri: &[u32], p: Pixel, axis: Axis) -> Pair
+    requires map { length pix2tri.now ≡ size.w * size.h }
+    requires within { Within size.w size.h axis.right axis.down p.x p.y }
+    ensures { PairAt pix2tri.now size.w size.h (edge_of axis p) result }
+{
+    let i = size.number(p);
+    let j = size.number(neighbour(p, axis));
+    Pair {
+        p: i,
+        q: j,
+        first: pix2tri[i],
+        second: pix2tri[j],
+    }
+}
+
+// The pair of a view, whose entries name faces that are there, or none.
+#[tactic(auto, using(crate::specs::Laws::first_named, crate::specs::Laws::second_named))]
+pub fn seen_pair(view: &View, p: Pixel, axis: Axis) -> Pair
     requires { Within view.now.size.w view.now.size.h axis.right axis.down p.x p.y }
     ensures pair { PairAt view.now.pix2tri.now view.now.size.w view.now.size.h (edge_of axis p) result }
     ensures first_named { names_face (length view.now.mesh.tri2vtx.now / 3) result.first ≡ true }
     ensures second_named { names_face (length view.now.mesh.tri2vtx.now / 3) result.second ≡ true }
 {
-    let q = neighbour(p, axis);
-    Pair {
-        p: view.size.number(p),
-        q: view.size.number(q),
-        first: view.entry(p),
-        second: view.entry(q),
-    }
+    pair_at(view.size, view.pix2tri, p, axis)
 }
 
 // Question 8 of the pair whose first pixel is p.
@@ -59,7 +70,7 @@ fn pair_answered(view: &View, p: Pixel, axis: Axis) -> bool
     requires { Within view.now.size.w view.now.size.h axis.right axis.down p.x p.y }
     ensures { result ≡ answered (seen_of view.now) (edge_of axis p) }
 {
-    let pair = pair_at(view, p, axis);
+    let pair = seen_pair(view, p, axis);
     pair.first == pair.second
         || inside::projects(&view.mesh, view.m, view.mesh.named(pair.first))
             && inside::projects(&view.mesh, view.m, view.mesh.named(pair.second))
@@ -68,7 +79,8 @@ fn pair_answered(view: &View, p: Pixel, axis: Axis) -> bool
 // Question 8 of the pairs whose first pixels lie in row y.
 #[tactic(auto, using(lists::specs::Laws::Every::every_none, lists::specs::Laws::Every::every_next), unfolding(crate::specs::Steps::row_passes))]
 fn row_answered(view: &View, axis: Axis, y: usize) -> bool
-    requires { y + axis.down < view.now.size.h }
+    requires columns { axis.right ≤ view.now.size.w }
+    requires row { y + axis.down < view.now.size.h }
     ensures { result ≡ row_passes (answered (seen_of view.now)) (axis_of axis) view.now.size.w y }
 {
     for x in 0..view.size.w - axis.right {
@@ -82,6 +94,8 @@ fn row_answered(view: &View, axis: Axis, y: usize) -> bool
 // Question 8 of an axis, row by row.
 #[tactic(auto, using(lists::specs::Laws::Every::every_none, lists::specs::Laws::Every::every_next))]
 fn all_answered(view: &View, axis: Axis) -> bool
+    requires columns { axis.right ≤ view.now.size.w }
+    requires rows { axis.down ≤ view.now.size.h }
     ensures { result ≡ all_answered (axis_of axis) view.now.size.h (seen_of view.now) }
 {
     for y in 0..view.size.h - axis.down {
@@ -97,7 +111,7 @@ fn all_answered(view: &View, axis: Axis) -> bool
 pub fn both_answered(view: &View) -> bool
     ensures { result ≡ both_answered view.now.size.h (seen_of view.now) }
 {
-    inside::all_project(&view.mesh, view.m)
+    inside::all_project(view.mesh.vtx2xyz, view.m)
         || all_answered(view, Axis::HEDGE) && all_answered(view, Axis::VEDGE)
 }
 

@@ -3,7 +3,7 @@
 // No function here is a public call.
 #![tactic(auto)]
 
-ghost use Rattle.std.specs.Prelude.{◌≡◌, true, ℕ, ◌<◌, IfSome};
+ghost use Rattle.std.specs.Prelude.{◌≡◌, true, ℕ, ◌≤◌, ◌<◌, IfSome};
 ghost use Rattle.geometry.specs.Answer.{point2};
 ghost use Rattle.meshes.specs.Answer.{face_of, maybe_face};
 ghost use Rattle.inside.specs.Steps.{all_project};
@@ -24,12 +24,14 @@ fn equal_pair(view: &View, p: Pixel, axis: Axis) -> bool
     requires { Within view.now.size.w view.now.size.h axis.right axis.down p.x p.y }
     ensures { result ≡ equal_at view.now.pix2tri.now view.now.size.w (edge_of axis p) }
 {
-    let pair = pairs::pair_at(view, p, axis);
+    let pair = pairs::pair_at(view.size, view.pix2tri, p, axis);
     pair.first == pair.second
 }
 
 // Is the pixel p like the next one, where there is one?
 fn like_next(view: &View, p: Pixel, axis: Axis) -> bool
+    requires columns { axis.right ≤ view.now.size.w }
+    requires rows { axis.down ≤ view.now.size.h }
     requires in_row { p.x < view.now.size.w }
     requires in_column { p.y < view.now.size.h }
     ensures { result ≡ true → LikeNext view.now.pix2tri.now view.now.size.w view.now.size.h p.x p.y axis.right axis.down }
@@ -126,5 +128,5 @@ pub fn quickly_answered(view: &View) -> bool
     ensures { result ≡ true
         → (both_answered view.now.size.h (seen_of view.now) ≡ true) × (both_unwrap view.now.size.h (seen_of view.now) ≡ true) }
 {
-    inside::all_project(&view.mesh, view.m) && all_weigh_or_inner(view)
+    inside::all_project(view.mesh.vtx2xyz, view.m) && all_weigh_or_inner(view)
 }

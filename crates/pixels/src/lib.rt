@@ -37,26 +37,18 @@ impl ImageSize {
     {
         p.y * self.w + p.x
     }
-
-    // How many pairs of neighbours there are along an axis.
-    pub fn edge_count(self, axis: Axis) -> usize
-        ensures { result ≡ edge.edge_count (edge.axis axis.right axis.down) self.w self.h }
-    {
-        edge_count(self.w, self.h, axis.right, axis.down)
-    }
 }
 
-// (Beside the method, since it asks less than an image's size and an axis say.)
-// How many pairs of pixels an image has whose second lies so many columns to the right and so many rows down.
+// How many pairs an image has along an axis.
 #[tactic(auto, using(crate::specs::Laws::edges_few))]
-pub fn edge_count(img_w: usize, img_h: usize, right: usize, down: usize) -> usize
+pub fn edge_count(img_w: usize, img_h: usize, axis: Axis) -> usize
     requires width { img_w ≤ 4096 }
     requires height { img_h ≤ 4096 }
-    requires columns { right ≤ img_w }
-    requires rows { down ≤ img_h }
-    ensures { result ≡ edge.edge_count (edge.axis right down) img_w img_h }
+    requires columns { axis.right ≤ img_w }
+    requires rows { axis.down ≤ img_h }
+    ensures { result ≡ edge.edge_count (edge.axis axis.right axis.down) img_w img_h }
 {
-    (img_h - down) * (img_w - right)
+    (img_h - axis.down) * (img_w - axis.right)
 }
 
 // A column, counted from the left, and a row, counted from the top, both from 0 on.
@@ -66,13 +58,11 @@ pub struct Pixel {
     pub y: usize,
 }
 
-// The way from a pair's first pixel to its second: so many columns to the right, so many rows down, and at most one.
+// The way from a pair's first pixel to its second: so many columns to the right, so many rows down.
 #[derive(Clone, Copy)]
 pub struct Axis {
     pub right: usize,
     pub down: usize,
-    pub ghost right_most: { right ≤ 1 },
-    pub ghost down_most: { down ≤ 1 },
 }
 
 impl Axis {

@@ -65,10 +65,9 @@ fn ask_velocity(
 {
     ask(sizes_ok(2, img_w, img_h), Refusal::Size)?;
     ask(groups_ok(2, MOST_COUNT, vtx2xy.len()), Refusal::Slices)?;
-    let size = ImageSize { w: img_w, h: img_h };
     ask(
-        hedge2vy.len() == size.edge_count(Axis::HEDGE)
-            && vedge2vx.len() == size.edge_count(Axis::VEDGE)
+        hedge2vy.len() == pixels::edge_count(img_w, img_h, Axis::HEDGE)
+            && vedge2vx.len() == pixels::edge_count(img_w, img_h, Axis::VEDGE)
             && vtx2velo.len() == vtx2xy.len(),
         Refusal::Lengths,
     )

@@ -16,7 +16,7 @@ put-requires c =
 
 pub loop-x-preserved : goal.loop-x-preserved
 loop-x-preserved c =
-    let k = c.pair_at-pair.ensures.pair in
+    let k = c.pair_at-pair.ensures in
     record {
       same = same_then c.loop-x.invariant.same c.put.ensures.same;
       filled =

@@ -6,4 +6,4 @@ use Rattle.inside.specs.Inside.{present}
 use Rattle.inside.proofs.all_project.Given as goal
 
 abbrev pub invariant-loop-v : goal.invariant-loop-v
-invariant-loop-v l = every (λ v. present (project l.m (vertex_at l.mesh.vtx2xyz.now v))) (span 0 l.v) ≡ true
+invariant-loop-v l = every (λ v. present (project l.m (vertex_at l.vtx2xyz v))) (span 0 l.v) ≡ true
