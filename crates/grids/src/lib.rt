@@ -30,6 +30,8 @@ pub struct Grid<'a> {
     pub values: &'a [f32],
     pub ghost wide: { 2 ≤ size.w },
     pub ghost tall: { 2 ≤ size.h },
+    pub ghost right_most: { axis.right ≤ 1 },
+    pub ghost down_most: { axis.down ≤ 1 },
     pub ghost whole: { length values.now ≡ edge.edge_count (axis_of axis) size.w size.h },
 }
 
