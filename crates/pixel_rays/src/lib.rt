@@ -2,18 +2,18 @@
 // Nothing here writes, and no function here is a public call.
 #![tactic(auto)]
 
-ghost use Rattle.std.specs.Prelude.{◌≡◌, List, ℕ, ◌*◌, ◌/◌, ◌<◌, length, IfSome};
+ghost use Rattle.std.specs.Prelude.{◌≡◌, List, [], ℕ, ◌+◌, ◌*◌, ◌/◌, ◌<◌, length, IfSome};
 ghost use Rattle.lists.specs.Lists.{every, span};
 ghost use Rattle.meshes.specs.Mesh.{Among};
 ghost use Rattle.meshes.specs.View.{view_of};
 ghost use Rattle.meshes.specs.Answer.{face_of, maybe_face};
 ghost use Rattle.rays.specs.Pixel.{row_at};
 ghost use Rattle.rays.specs.Answer.{pixel_ray_of};
-ghost use Rattle.pixel_rays.specs.Rays.{ray_of, answered, rays_answer};
-ghost use Rattle.pixel_rays.specs.Answer.{image_of, shown, number};
+ghost use Rattle.pixel_rays.specs.Rays.{image, ray_of, answered, rays_answer};
+ghost use Rattle.pixel_rays.specs.Answer.{shown, number};
 
 use meshes::{Face, View};
-use pixels::Pixel;
+use pixels::{ImageSize, Pixel};
 use questions::EMPTY;
 use rays::Ray;
 
@@ -30,45 +30,49 @@ pub fn face(view: &View, p: Pixel) -> Option<Face>
 
 // The ray of a pixel, whose row is at y.
 #[tactic(auto, using(crate::specs::Laws::ray_seen))]
-pub fn ray(view: &View, p: Pixel, y: f32) -> Option<Ray>
-    requires in_row { p.x < view.now.size.w }
-    requires row { y ≡ row_at view.now.size.h p.y }
-    ensures { pixel_ray_of result ≡ ray_of (image_of view.now) (number view.now p) }
+pub fn ray(size: ImageSize, m: &[f32; 16], p: Pixel, y: f32) -> Option<Ray>
+    requires in_row { p.x < size.w }
+    requires row { y ≡ row_at size.h p.y }
+    ensures { pixel_ray_of result ≡ ray_of (image size.w size.h m.now) (p.y * size.w + p.x) }
 {
-    rays::ray_at(view.m, rays::column_at(view.size.w, p.x), y)
+    rays::ray_at(m, rays::column_at(size.w, p.x), y)
 }
 
 // Question 8 of a pixel, whose row is at y.
-#[tactic(auto, using(crate::specs::Laws::entry_seen), unfolding(meshes::specs::View::named, crate::specs::Rays::answered))]
-fn pixel_ok(view: &View, p: Pixel, y: f32) -> bool
-    requires in_row { p.x < view.now.size.w }
-    requires in_column { p.y < view.now.size.h }
-    requires row { y ≡ row_at view.now.size.h p.y }
-    ensures { result ≡ answered ((shown view.now).at (number view.now p)) (ray_of (image_of view.now) (number view.now p)) }
+#[tactic(auto, using(meshes::specs::Laws::entry_read), unfolding(meshes::specs::View::named, crate::specs::Rays::answered))]
+fn pixel_ok(size: ImageSize, m: &[f32; 16], pix2tri: &[u32], p: Pixel, y: f32) -> bool
+    requires map { length pix2tri.now ≡ size.w * size.h }
+    requires in_row { p.x < size.w }
+    requires in_column { p.y < size.h }
+    requires row { y ≡ row_at size.h p.y }
+    ensures { let n = p.y * size.w + p.x in
+        result ≡ answered ((view_of [] pix2tri.now).at n) (ray_of (image size.w size.h m.now) n) }
 {
-    view.entry(p) == EMPTY || ray(view, p, y).is_some()
+    pix2tri[size.number(p)] == EMPTY || ray(size, m, p, y).is_some()
 }
 
 // Question 8 of row iy.
-fn row_ok(view: &View, iy: usize) -> bool
-    requires { iy < view.now.size.h }
-    ensures { result ≡ every (λ p. answered ((shown view.now).at p) (ray_of (image_of view.now) p)) (span (iy * view.now.size.w) view.now.size.w) }
+fn row_ok(size: ImageSize, m: &[f32; 16], pix2tri: &[u32], iy: usize) -> bool
+    requires map { length pix2tri.now ≡ size.w * size.h }
+    requires in_image { iy < size.h }
+    ensures { result ≡ every (λ p. answered ((view_of [] pix2tri.now).at p) (ray_of (image size.w size.h m.now) p)) (span (iy * size.w) size.w) }
 {
-    let y = rays::row_at(view.size.h, iy);
-    for ix in 0..view.size.w {
-        if !pixel_ok(view, Pixel { x: ix, y: iy }, y) {
+    let y = rays::row_at(size.h, iy);
+    for ix in 0..size.w {
+        if !pixel_ok(size, m, pix2tri, Pixel { x: ix, y: iy }, y) {
             return false;
         }
     }
     true
 }
 
-// Question 8. It is the same for any faces: of the map it asks which pixels are empty.
-pub fn rays_ok(view: &View) -> bool
-    ensures { (tri : List ℕ) → result ≡ rays_answer (image_of view.now) (view_of tri view.now.pix2tri.now) }
+// Question 8 of a map. It is the same for any faces: it asks which pixels are empty.
+pub fn rays_ok(size: ImageSize, m: &[f32; 16], pix2tri: &[u32]) -> bool
+    requires { length pix2tri.now ≡ size.w * size.h }
+    ensures { (tri : List ℕ) → result ≡ rays_answer (image size.w size.h m.now) (view_of tri pix2tri.now) }
 {
-    for iy in 0..view.size.h {
-        if !row_ok(view, iy) {
+    for iy in 0..size.h {
+        if !row_ok(size, m, pix2tri, iy) {
             return false;
         }
     }

@@ -13,7 +13,7 @@ unfolding rays_answer
 returns-then-not-row_ok c = λ tri. rows_stopped _ _ _ c.loop-iy.iy (omega arith) (so c.row_ok.ensures c.if-not-row_ok.true) ∙ any_faces _ _ _ _
 
 pub loop-iy-preserved : goal.loop-iy-preserved
-loop-iy-preserved c = rows_more _ _ c.args.view.now.size.h c.loop-iy.iy c.loop-iy.invariant (so c.row_ok.ensures c.if-not-row_ok.false)
+loop-iy-preserved c = rows_more _ _ c.args.size.h c.loop-iy.iy c.loop-iy.invariant (so c.row_ok.ensures c.if-not-row_ok.false)
 
 pub returns : goal.returns
 unfolding rays_answer
