@@ -1,18 +1,13 @@
 -- What an edge pass knows past its questions, each asked by `ask` or together with others.
 use Rattle.std.specs.Prelude.{ℕ, ◌/◌, ◌≡◌, refl, Bool, true, false, cond, Ok, Err, List, [], length, Float}
 use Rattle.std.proofs.Common.{sym}
-use Rattle.questions.specs.declared.Refusal.{Refusal}
+use Rattle.questions.proofs.Laws.Refusals.{yes}
 use Rattle.questions.specs.Questions.{first_no, opening, naming}
 use Rattle.questions.proofs.Laws.Opening.{Opened, opened, named_well}
 use Rattle.meshes.specs.Sound.{SoundMesh, SoundMap}
 use Rattle.meshes.specs.Laws.{sound_mesh, sound}
 use Rattle.pairs.specs.Gradient.{PixelValues, exact_pixels}
 use Rattle.pairs.specs.Laws.{pixels_exact}
-
--- a question that is passed was answered yes
-pub yes : (a : Bool) (r : Refusal) {u : Unit {0}} → Ok u ≡ cond a (Ok tt) (Err r) → a ≡ true
-yes true r e = refl
-yes false r e = cc
 
 -- what the questions say, answered yes
 pub opening_passed : (w h c tri xyz : ℕ) → 0 ≡ first_no (opening w h c tri xyz) → Opened w h c tri xyz

@@ -5,12 +5,12 @@ use Rattle.questions.specs.Answer.{number_of}
 use Rattle.meshes.specs.View.{View}
 use Rattle.pixel_rays.specs.Rays.{Image}
 use Rattle.pixel_rays.specs.Answer.{image_of, shown}
+use Rattle.vertex_values.specs.declared.Vertices as codeV
 use Rattle.vertex_values.specs.declared.Pass as code
 use Rattle.vertex_values.specs.Pass.{Vertices, vertices}
 
--- the vertices of a pass
-abbrev pub vertices_of : code.Pass → Vertices
-vertices_of p = vertices p.view.mesh.vtx2xyz.now p.num_vdim p.vtx2val.now
+abbrev pub vertices_of : codeV.Vertices → Vertices
+vertices_of s = vertices s.vtx2xyz.now s.num_vdim s.vtx2val.now
 
 -- the code of a pass, or of its refusal
 abbrev pub refusal_of : Result code.Pass Refusal → ℕ
@@ -20,6 +20,6 @@ refusal_of (Err r) = number_of r
 -- what an accepted pass is of: an image, vertices and a view, and a buffer of n numbers for its pixels
 pub record Lent (p : code.Pass) (g : Image) (s : Vertices) (v : View) (n : ℕ) : Type 0 where
   pub of_image : image_of p.view ≡ g
-  pub of_vertices : vertices_of p ≡ s
+  pub of_vertices : vertices_of p.vertices ≡ s
   pub of_view : shown p.view ≡ v
   pub channels : n ≡ g.w * g.h * s.channels

@@ -13,14 +13,36 @@ use meshes::{Mesh, View};
 use pixels::ImageSize;
 use questions::{Refusal, ask};
 
-// What both passes are lent, once their questions are answered yes: a view, and `num_vdim` values for each vertex of its mesh.
+// Vertices, three coordinates of the world each, and `num_vdim` values for each of them.
+#[derive(Clone, Copy)]
+pub struct Vertices<'a> {
+    pub vtx2xyz: &'a [f32],
+    pub num_vdim: usize,
+    pub vtx2val: &'a [f32],
+    pub ghost valued: { length vtx2val.now ≡ length vtx2xyz.now / 3 * num_vdim },
+}
+
+// What both passes are lent, once their questions are answered yes: a view, and its vertices with their values.
 #[derive(Clone, Copy)]
 pub struct Pass<'a> {
     pub view: View<'a>,
-    pub num_vdim: usize,
-    pub vtx2val: &'a [f32],
-    pub ghost channels: { Channels num_vdim },
-    pub ghost valued: { length vtx2val.now ≡ length view.mesh.vtx2xyz.now / 3 * num_vdim },
+    pub vertices: Vertices<'a>,
+    pub ghost own: { vertices.vtx2xyz.now ≡ view.mesh.vtx2xyz.now },
+}
+
+impl Vertices<'_> {
+    ghost use Rattle.vertex_values.specs.Pass.{value_of};
+    ghost use Rattle.vertex_values.specs.Answer.{vertices_of};
+
+    // Channel j of vertex v.
+    #[tactic(auto, using(crate::specs::Laws::value_there))]
+    pub fn value(&self, v: usize, j: usize) -> f32
+        requires vertex { v < length self.now.vtx2xyz.now / 3 }
+        requires channel { j < self.now.num_vdim }
+        ensures { result ≡ value_of (vertices_of self.now) v j }
+    {
+        self.vtx2val[v * self.num_vdim + j]
+    }
 }
 
 // Question 4 of the buffers that both passes are lent, by their lengths.
@@ -42,8 +64,7 @@ fn exact_ok(
 }
 
 impl<'a> Pass<'a> {
-    ghost use Rattle.vertex_values.specs.Pass.{value_of};
-    ghost use Rattle.vertex_values.specs.Answer.{refusal_of, vertices_of, Lent};
+    ghost use Rattle.vertex_values.specs.Answer.{refusal_of, Lent};
 
     // The questions of a pass with a buffer of `pixels` numbers for its pixels; `others`: have the buffers that it alone is lent the exact length?
     #[tactic(auto, unfolding(questions::specs::Questions::first_no, crate::specs::Questions::pass_code))]
@@ -76,21 +97,12 @@ impl<'a> Pass<'a> {
             pix2tri,
             m,
         };
-        ask(pixel_rays::rays_ok(&view), Refusal::Projections)?;
-        Ok(Pass {
-            view,
+        ask(pixel_rays::rays_ok(size, m, pix2tri), Refusal::Projections)?;
+        let vertices = Vertices {
+            vtx2xyz,
             num_vdim,
             vtx2val,
-        })
-    }
-
-    // Channel j of vertex v.
-    #[tactic(auto, using(crate::specs::Laws::value_there))]
-    pub fn value(&self, v: usize, j: usize) -> f32
-        requires vertex { v < length self.now.view.mesh.vtx2xyz.now / 3 }
-        requires channel { j < self.now.num_vdim }
-        ensures { result ≡ value_of (vertices_of self.now) v j }
-    {
-        self.vtx2val[v * self.num_vdim + j]
+        };
+        Ok(Pass { view, vertices })
     }
 }

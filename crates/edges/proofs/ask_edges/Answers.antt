@@ -5,7 +5,7 @@ use Rattle.questions.specs.Questions.{first_no, naming}
 use Rattle.questions.specs.Laws.{passes}
 use Rattle.questions.proofs.Laws.Opening.{past_opening, first_refused}
 use Rattle.questions.proofs.Laws.Refusals.{never_accepted}
-use Rattle.pairs.proofs.Asked.{yes}
+use Rattle.questions.proofs.Laws.Refusals.{yes}
 use Rattle.pairs.specs.Gradient.{pixel_values}
 use Rattle.edge_types.specs.Axis.{axis_buffers}
 use Rattle.edges.specs.Calls.{edge_buffers, exact_all, edge_code}

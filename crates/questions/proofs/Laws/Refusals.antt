@@ -1,11 +1,16 @@
 -- How a call's outcome comes of an answer that a `?` took apart.
-use Rattle.std.specs.Prelude.{ℕ, ◌≡◌, Err}
+use Rattle.std.specs.Prelude.{ℕ, ◌≡◌, refl, Bool, true, false, cond, Ok, Err}
 use Rattle.std.proofs.Common.{arith}
 use Rattle.questions.specs.declared.Refusal.{Refusal}
 use Rattle.questions.specs.declared.Refusal.TheVariants.{Size, Channels, Slices, Lengths, Numbers, Vertices, Faces, Projections, Weights}
 use Rattle.questions.specs.Answer.{number_of, code_of}
 use Rattle.questions.specs.Questions.{outcome, answer}
 use Rattle.questions.specs.Laws.{call_refused}
+
+-- a question that is passed was answered yes
+pub yes : (a : Bool) (r : Refusal) {u : Unit {0}} → Ok u ≡ cond a (Ok tt) (Err r) → a ≡ true
+yes true r e = refl
+yes false r e = cc
 
 -- no question has the number 0
 pub never_accepted : (r : Refusal) → number_of r ≡ 0 → ⊥

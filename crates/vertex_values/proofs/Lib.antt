@@ -1,2 +1,0 @@
--- laws that the proofs share
-pub mod Asked
