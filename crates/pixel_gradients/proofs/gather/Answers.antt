@@ -8,5 +8,5 @@ use Rattle.pixel_gradients.proofs.gather.Goals as goal
 pub returns : goal.returns
 unfolding incoming
 returns c =
-    let all : c.loop-j.j ≡ c.args.pass.now.num_vdim = omega arith in
-    c.loop-j.invariant ∙ ap (gathered_to (vertices_of c.args.pass.now) (face_of c.args.f) (incoming_at c.args.dldw.now c.args.at)) all
+    let all : c.loop-j.j ≡ c.args.vertices.now.num_vdim = omega arith in
+    c.loop-j.invariant ∙ ap (gathered_to (vertices_of c.args.vertices.now) (face_of c.args.f) (incoming_at c.args.dldw.now c.args.at)) all

@@ -7,4 +7,4 @@ use Rattle.pixel_gradients.proofs.Gathered.{gathered_to}
 use Rattle.pixel_gradients.proofs.gather.Given as goal
 
 abbrev pub invariant-loop-j : goal.invariant-loop-j
-invariant-loop-j l = weights_of l.b ≡ gathered_to (vertices_of l.pass) (face_of l.f) (incoming_at l.dldw l.at) l.j
+invariant-loop-j l = weights_of l.b ≡ gathered_to (vertices_of l.vertices) (face_of l.f) (incoming_at l.dldw l.at) l.j

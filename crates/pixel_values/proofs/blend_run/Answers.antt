@@ -13,10 +13,10 @@ pub loop-j-preserved : goal.loop-j-preserved
 unfolding blend_of
 loop-j-preserved c =
     let j = c.loop-j.j in
-    let here : c.blend.result ≡ blend_of (vertices_of c.args.pass.now) (face_of c.args.f) (weights_of c.args.b) j = cc in
+    let here : c.blend.result ≡ blend_of (vertices_of c.args.vertices.now) (face_of c.args.f) (weights_of c.args.b) j = cc in
     ap₂ (λ t x. slice_set t j x) c.loop-j.invariant here ∙ stored_more _ c.args.val.now j (omega arith)
 
 pub returns : goal.returns
 returns c =
-    let all : c.loop-j.j ≡ c.args.pass.now.num_vdim = omega (arith, c.requires.whole) in
+    let all : c.loop-j.j ≡ c.args.vertices.now.num_vdim = omega (arith, c.requires.whole) in
     c.loop-j.invariant ∙ ap (stored _ c.args.val.now) all ∙ stored_all _ c.args.val.now _ c.requires.whole
