@@ -5,7 +5,7 @@ use Rattle.lists.specs.Lists.{every, span}
 use Rattle.questions.specs.Questions.{empty}
 use Rattle.rays.specs.Space.{Ray}
 use Rattle.meshes.specs.Mesh.{face_at}
-use Rattle.std.proofs.Common.{arith}
+use Rattle.std.proofs.Common.{sym, arith}
 use Rattle.pixels.specs.Laws.{row-at, column-at, number_below}
 use Rattle.rays.specs.Pixel.{pixel_ray, ray_at, column_at, row_at}
 use Rattle.meshes.specs.View.{entry_at, named, view_of}
@@ -22,6 +22,10 @@ entry_seen {tri} {map} {xyz} {w} {h} {x} {y} s inside below =
 pub ray_seen : (w h : ℕ) (m : List Float) (iy ix : ℕ) → ix < w → ray_of (image w h m) (iy * w + ix) ≡ ray_at m (column_at w ix) (row_at h iy)
 unfolding ray_of pixel_ray
 ray_seen w h m iy ix l = rw (row-at w iy ix l, column-at w iy ix l)
+
+-- the same, through a point that is its centre
+pub ray_through : (w h : ℕ) (m : List Float) (iy ix : ℕ) {x y : Float} → ix < w → x ≡ column_at w ix → y ≡ row_at h iy → ray_at m x y ≡ ray_of (image w h m) (iy * w + ix)
+ray_through w h m iy ix l ex ey = rw (ex, ey) (sym (ray_seen w h m iy ix l))
 
 -- of a map question 8 asks which pixels are empty, and nothing of its faces
 module _ (g : Image) (tri tri' map : List ℕ) where

@@ -30,7 +30,7 @@ pub fn face(view: &View, p: Pixel) -> Option<Face>
 
 // The ray of a pixel, whose row is at y.
 #[tactic(auto, using(crate::specs::Laws::ray_seen))]
-pub fn ray(size: ImageSize, m: &[f32; 16], p: Pixel, y: f32) -> Option<Ray>
+fn ray(size: ImageSize, m: &[f32; 16], p: Pixel, y: f32) -> Option<Ray>
     requires in_row { p.x < size.w }
     requires row { y ≡ row_at size.h p.y }
     ensures { pixel_ray_of result ≡ ray_of (image size.w size.h m.now) (p.y * size.w + p.x) }

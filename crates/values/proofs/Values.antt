@@ -1,6 +1,7 @@
 -- From what the steps of `interpolate` promise to its outcome.
 use Rattle.std.specs.Prelude.{ℕ, ◌+◌, ◌*◌, ◌<◌, ◌≤◌, ◌≡◌, refl, List, ◌++◌, Float, length, get_or, take, drop, Err}
 use Rattle.std.specs.Float.{nan}
+use Rattle.std.proofs.Math.Option.{Option}
 use Rattle.std.proofs.Common.{sym, ◌∙◌, ap, ap₂, zero-add, mul_comm, add-mul, mul-le-mul_right, arith}
 use Rattle.questions.specs.declared.Refusal.{Refusal}
 use Rattle.questions.specs.Answer.{code_of}
@@ -8,10 +9,12 @@ use Rattle.questions.specs.Questions.{outcome}
 use Rattle.questions.specs.Laws.{call_done}
 use Rattle.questions.proofs.Laws.Refusals.{refused}
 use Rattle.pixels.specs.Laws.{row-at, column-at}
+use Rattle.meshes.specs.Mesh.{Face}
 use Rattle.meshes.specs.View.{View, view_of}
 use Rattle.lists.specs.Lists.{tabulate}
 use Rattle.lists.specs.Laws.Tables.{tabulate_same}
 use Rattle.lists.specs.Laws.Every.{row_below}
+use Rattle.rays.specs.Space.{Ray}
 use Rattle.pixel_rays.specs.Rays.{Image, ray_of}
 use Rattle.pixel_rays.specs.Answer.{image_of, shown}
 use Rattle.vertex_values.specs.Pass.{Vertices}
@@ -28,9 +31,10 @@ value_of_pixel : (g : Image) (s : Vertices) (v : View) (p j : ℕ) (old : Float)
 unfolding value_in
 value_of_pixel g s v p j old l = rw (row-at s.channels p j l, column-at s.channels p j l)
 
--- pixel n's run, of k places, lent and written
-module _ (g : Image) (s : Vertices) (v : View) (iy ix n k : ℕ) (en : n ≡ iy * g.w + ix) (ek : k ≡ s.channels) (cur new : List Float)
-    (e : new ≡ tabulate (λ j. value_at s (v.at (iy * g.w + ix)) (ray_of g (iy * g.w + ix)) j (get_or (take k (drop (n * s.channels) cur)) j nan)) 0 s.channels) where
+-- pixel n's run, of k places, lent and written: what the pixel shows, and its ray
+module _ (g : Image) (s : Vertices) (v : View) (iy ix n k : ℕ) (en : n ≡ iy * g.w + ix) (ek : k ≡ s.channels) {o : Option Face} {r : Option (Ray Float)}
+    (eo : o ≡ v.at (iy * g.w + ix)) (er : r ≡ ray_of g (iy * g.w + ix)) (cur new : List Float)
+    (e : new ≡ tabulate (λ j. value_at s o r j (get_or (take k (drop (n * s.channels) cur)) j nan)) 0 s.channels) where
   written : List Float
   written = take (n * s.channels) cur ++ (new ++ drop k (drop (n * s.channels) cur))
 
@@ -39,7 +43,7 @@ module _ (g : Image) (s : Vertices) (v : View) (iy ix n k : ℕ) (en : n ≡ iy 
   run_filled =
       rw ek
       (filled_lent (value_in g s v) (n * s.channels) s.channels cur new
-      (e ∙ rw (ek, ← en) (tabulate_same _ _ 0 0 s.channels (λ j l. sym (value_of_pixel g s v n (0 + j) _ (omega arith))))))
+      (e ∙ rw (eo, er, ek, ← en) (tabulate_same _ _ 0 0 s.channels (λ j l. sym (value_of_pixel g s v n (0 + j) _ (omega arith))))))
 
   -- one more pixel of row iy
   pub row_more : (old : List Float) → n * s.channels + s.channels ≤ length old
@@ -82,10 +86,10 @@ module _ (g : Image) (s : Vertices) (tri map : List ℕ) (old : List Float) wher
   not_done r e = refused r _ e
 
   pub done : {p : Pass} {n : ℕ} (new : List Float) → 0 ≡ interpolate_code g s tri map old → Lent p g s (view_of tri map) n
-      → new ≡ interpolated (image_of p.view) (vertices_of p) (shown p.view) old → outcome 0 new ≡ interpolating g s tri map old
+      → new ≡ interpolated (image_of p.view) (vertices_of p.vertices) (shown p.view) old → outcome 0 new ≡ interpolating g s tri map old
   unfolding interpolating
   done {p} new e l made =
       call_done old e refl
       (made
-      ∙ ap (λ (i : Image). interpolated i (vertices_of p) (shown p.view) old) l.of_image
+      ∙ ap (λ (i : Image). interpolated i (vertices_of p.vertices) (shown p.view) old) l.of_image
       ∙ ap₂ (λ (t : Vertices) (v : View). interpolated g t v old) l.of_vertices l.of_view)

@@ -9,7 +9,7 @@ loop-iy-init c = rw (zero-mul, zero-mul) (filled_none _ _ _)
 
 pub loop-iy-preserved : goal.loop-iy-preserved
 loop-iy-preserved c =
-    rows_more _ c.args.pass.now.view.size.w c.args.pass.now.view.size.h c.args.pass.now.num_vdim c.loop-iy.iy c.args.pix2val.now _ c.requires _ (omega arith) c.loop-iy.invariant c.row_values.ensures
+    rows_more _ c.args.pass.now.view.size.w c.args.pass.now.view.size.h c.args.pass.now.vertices.num_vdim c.loop-iy.iy c.args.pix2val.now _ c.requires _ (omega arith) c.loop-iy.invariant c.row_values.ensures
 
 pub returns : goal.returns
 unfolding interpolated

@@ -6,4 +6,4 @@ use Rattle.values.specs.Filled.{filled}
 use Rattle.values.proofs.fill.image_values.Given as goal
 
 abbrev pub invariant-loop-iy : goal.invariant-loop-iy
-invariant-loop-iy l = l.pix2val ≡ filled (value_in (image_of l.pass.view) (vertices_of l.pass) (shown l.pass.view)) 0 (l.iy * l.pass.view.size.w * l.pass.num_vdim) l.initial.pix2val
+invariant-loop-iy l = l.pix2val ≡ filled (value_in (image_of l.pass.view) (vertices_of l.pass.vertices) (shown l.pass.view)) 0 (l.iy * l.pass.view.size.w * l.pass.vertices.num_vdim) l.initial.pix2val
