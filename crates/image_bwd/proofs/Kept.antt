@@ -5,7 +5,7 @@ use Rattle.pixel_bwd.specs.declared.Backward.{Backward}
 use Rattle.pixel_bwd.specs.Answer.{SameSums}
 
 pub same_none : (a : Backward) → SameSums a a
-same_none a = record { xyz = refl; val = refl; pass = refl; incoming = refl }
+same_none a = record { xyz = refl; val = refl; vertices = refl; incoming = refl }
 
 pub same_then : {a b c : Backward} → SameSums a b → SameSums b c → SameSums a c
-same_then s t = record { xyz = s.xyz ∙ t.xyz; val = s.val ∙ t.val; pass = s.pass ∙ t.pass; incoming = s.incoming ∙ t.incoming }
+same_then s t = record { xyz = s.xyz ∙ t.xyz; val = s.val ∙ t.val; vertices = s.vertices ∙ t.vertices; incoming = s.incoming ∙ t.incoming }

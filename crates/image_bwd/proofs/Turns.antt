@@ -1,7 +1,10 @@
 -- From one pixel's sums to a row's, and to the image's.
 use Rattle.std.specs.Prelude.{ℕ, ◌+◌, ◌*◌, ◌≡◌, List, Float}
 use Rattle.std.proofs.Common.{sym, ◌∙◌, ap, zero-add, arith}
+use Rattle.std.proofs.Math.Option.{Option}
+use Rattle.meshes.specs.Mesh.{Face}
 use Rattle.meshes.specs.View.{View}
+use Rattle.rays.specs.Space.{Ray}
 use Rattle.pixel_rays.specs.Rays.{Image, ray_of}
 use Rattle.vertex_values.specs.Pass.{Vertices}
 use Rattle.pixel_gradients.specs.Gradients.{incoming_at}
@@ -11,10 +14,10 @@ use Rattle.image_bwd.proofs.Laws.{over-one, over-more, over_ended}
 
 module _ (g : Image) (s : Vertices) (v : View) (dldw : List Float) where
   -- pixel p, after the k before it from a on
-  pub pixel_turn : (a k : ℕ) (old : Sums) {cur new : Sums} → cur ≡ summed_over g s v dldw a k old
-      → new ≡ pixel_sums s (v.at (a + k)) (ray_of g (a + k)) (incoming_at dldw ((a + k) * s.channels)) cur → new ≡ summed_over g s v dldw a (k + 1) old
+  pub pixel_turn : (a k : ℕ) (old : Sums) {cur new : Sums} {o : Option Face} {r : Option (Ray Float)} {at : ℕ} → cur ≡ summed_over g s v dldw a k old
+      → o ≡ v.at (a + k) → r ≡ ray_of g (a + k) → at ≡ (a + k) * s.channels → new ≡ pixel_sums s o r (incoming_at dldw at) cur → new ≡ summed_over g s v dldw a (k + 1) old
   unfolding xyz_at val_at
-  pixel_turn a k old {cur} e step = over-more g s v dldw a k 1 old e (step ∙ sym (over-one g s v dldw (a + k) cur))
+  pixel_turn a k old {cur} e eo er ea step = over-more g s v dldw a k 1 old e (rw (eo, er, ea) at step ∙ sym (over-one g s v dldw (a + k) cur))
 
   -- row iy, after those above it
   pub row_turn : (w iy : ℕ) (old : Sums) {cur new : Sums} → cur ≡ summed_over g s v dldw 0 (iy * w) old → new ≡ summed_over g s v dldw (iy * w) w cur

@@ -1,41 +1,38 @@
 // The backward pass of values at one pixel: what it adds. No function here is a public call.
 #![tactic(auto)]
 
-ghost use Rattle.std.specs.Prelude.{◌≡◌, ◌+◌, ◌*◌, ◌/◌, ◌≤◌, ◌<◌, length};
+ghost use Rattle.std.specs.Prelude.{◌≡◌, ◌+◌, ◌*◌, ◌/◌, ◌≤◌, ◌<◌, length, IfSome};
 ghost use Rattle.geometry.specs.Answer.{corners_of, weights_of};
-ghost use Rattle.rays.specs.Pixel.{row_at};
+ghost use Rattle.rays.specs.Pixel.{ray_at};
 ghost use Rattle.meshes.specs.Mesh.{Among};
 ghost use Rattle.meshes.specs.Sums.{summed};
-ghost use Rattle.meshes.specs.Answer.{face_of};
-ghost use Rattle.pixel_rays.specs.Rays.{ray_of};
-ghost use Rattle.pixel_rays.specs.Answer.{image_of, shown, number};
+ghost use Rattle.meshes.specs.Answer.{face_of, maybe_face};
 ghost use Rattle.vertex_values.specs.Answer.{vertices_of};
 ghost use Rattle.pixel_gradients.specs.Gradients.{incoming_at};
 ghost use Rattle.pixel_bwd.specs.Additions.{to_corners, to_xyz, to_val, pixel_sums};
 
 use geometry::{Triangle, Vec3, Weights};
 use meshes::Face;
-use pixels::Pixel;
-use vertex_values::Pass;
+use vertex_values::Vertices;
 
-// What `interpolate_bwd` is lent, once its questions are answered yes: a pass, the gradients of its pixels' values, and the accumulators of those of its
-// vertices' coordinates and values.
+// What `interpolate_bwd` adds to: vertices with their values, the gradients of the pixels' values, and the accumulators of those of the vertices'
+// coordinates and values.
 #[derive(Drop)]
 pub struct Backward<'a> {
-    pub pass: &'a Pass<'a>,
+    pub vertices: &'a Vertices<'a>,
     pub dldw: &'a [f32],
     pub dxyz: &'a mut [f32],
     pub dval: &'a mut [f32],
-    pub ghost incoming: { length dldw.now ≡ pass.now.view.size.w * pass.now.view.size.h * pass.now.num_vdim },
-    pub ghost xyz: { length dxyz.now ≡ length pass.now.view.mesh.vtx2xyz.now },
-    pub ghost val: { length dval.now ≡ length pass.now.vtx2val.now },
+    pub ghost xyz: { length dxyz.now ≡ length vertices.now.vtx2xyz.now },
+    pub ghost val: { length dval.now ≡ length vertices.now.vtx2val.now },
 }
 
 // One addition for each corner of a face, at number j of its n.
-#[tactic(auto, using(crate::proofs::Laws::place_there), unfolding(meshes::specs::Sums::summed))]
+#[tactic(auto, unfolding(meshes::specs::Sums::summed))]
 fn add_three(sums: &mut [f32], n: usize, f: Face, j: usize, x0: f32, x1: f32, x2: f32)
-    requires among { Among (length sums.old / n) (face_of f) }
-    requires number { j < n }
+    requires place0 { f.v0 * n + j < length sums.old }
+    requires place1 { f.v1 * n + j < length sums.old }
+    requires place2 { f.v2 * n + j < length sums.old }
     ensures { sums.new ≡ summed sums.old (to_corners n (face_of f) j x0 x1 x2) }
 {
     meshes::add_at(sums, f.v0 * n + j, x0);
@@ -58,8 +55,10 @@ fn add_shares(dxyz: &mut [f32], f: Face, to: Triangle<Vec3>)
 // The incoming gradients by the corners' weights, channel by channel of c; they begin at `at`.
 #[tactic(auto, using(meshes::specs::Laws::turns_none, meshes::specs::Laws::turns_more, meshes::specs::Laws::turns_ended), unfolding(crate::specs::Additions::to_val))]
 fn add_values(dval: &mut [f32], c: usize, f: Face, bc: Weights, dldw: &[f32], at: usize)
-    requires among { Among (length dval.old / c) (face_of f) }
-    requires run { at + c ≤ length dldw.now }
+    requires run0 { f.v0 * c + c ≤ length dval.old }
+    requires run1 { f.v1 * c + c ≤ length dval.old }
+    requires run2 { f.v2 * c + c ≤ length dval.old }
+    requires incoming { at + c ≤ length dldw.now }
     ensures { dval.new ≡ summed dval.old (to_val c (face_of f) (incoming_at dldw.now at) (weights_of bc)) }
 {
     for j in 0..c {
@@ -71,27 +70,23 @@ fn add_values(dval: &mut [f32], c: usize, f: Face, bc: Weights, dldw: &[f32], at
 impl Backward<'_> {
     ghost use Rattle.pixel_bwd.specs.Answer.{held, SameSums};
 
-    // What one pixel adds, whose row is at y.
-    #[tactic(auto, unfolding(crate::specs::Additions::pixel_xyz, crate::specs::Additions::pixel_val, meshes::specs::Sums::summed))]
-    pub fn add_pixel(&mut self, p: Pixel, y: f32)
-        requires in_row { p.x < self.old.pass.now.view.size.w }
-        requires in_column { p.y < self.old.pass.now.view.size.h }
-        requires row { y ≡ row_at self.old.pass.now.view.size.h p.y }
+    // What one pixel adds: what it shows, x and y of its ray, and where its channels begin.
+    #[tactic(auto, using(vertex_values::specs::Laws::run_there), unfolding(crate::specs::Additions::pixel_xyz, crate::specs::Additions::pixel_val, meshes::specs::Sums::summed))]
+    pub fn add_pixel(&mut self, shown: Option<Face>, m: &[f32; 16], x: f32, y: f32, at: usize)
+        requires among { IfSome shown (λ f. Among (length self.old.vertices.now.vtx2xyz.now / 3) (face_of f)) }
+        requires run { at + self.old.vertices.now.num_vdim ≤ length self.old.dldw.now }
         ensures same { SameSums self.old self.new }
-        ensures added { let n = number self.old.pass.now.view p in
-            held self.new ≡ pixel_sums (vertices_of self.old.pass.now) ((shown self.old.pass.now.view).at n) (ray_of (image_of self.old.pass.now.view) n)
-            (incoming_at self.old.dldw.now (n * self.old.pass.now.num_vdim)) (held self.old) }
+        ensures added { held self.new
+            ≡ pixel_sums (vertices_of self.old.vertices.now) (maybe_face shown) (ray_at m.now x y) (incoming_at self.old.dldw.now at) (held self.old) }
     {
-        let pass = self.pass;
-        let Some(f) = pixel_rays::face(&pass.view, p) else {
+        let Some(f) = shown else {
             return;
         };
-        let Some(r) = pixel_rays::ray(&pass.view, p, y) else {
+        let Some(r) = rays::ray_at(m, x, y) else {
             return;
         };
-        let at = pass.view.size.number(p) * pass.num_vdim;
-        let g = pixel_gradients::gradients_at(pass, f, r, self.dldw, at);
+        let g = pixel_gradients::gradients_at(self.vertices, f, r, self.dldw, at);
         add_shares(self.dxyz, f, g.to);
-        add_values(self.dval, pass.num_vdim, f, g.bc, self.dldw, at);
+        add_values(self.dval, self.vertices.num_vdim, f, g.bc, self.dldw, at);
     }
 }

@@ -4,4 +4,4 @@ use Rattle.image_bwd.specs.Answer.{with_pixels}
 use Rattle.image_bwd.proofs.add_image.Given as goal
 
 abbrev pub invariant-loop-iy : goal.invariant-loop-iy
-invariant-loop-iy l = let a = l.initial.sums in SameSums a l.sums × (held l.sums ≡ with_pixels a 0 (l.iy * a.pass.now.view.size.w) (held a))
+invariant-loop-iy l = let a = l.initial.sums in SameSums a l.sums × (held l.sums ≡ with_pixels l.view a 0 (l.iy * l.view.size.w) (held a))
