@@ -25,24 +25,18 @@ module _ (g : Image) (s : Vertices) (tri map : List ℕ) (dldw : List Float) (ol
   not_done r e = refused r _ (bwd_code_lem g s tri map dldw old f e)
 
   pub done : (p : Pass) {n : ℕ} (new : Sums) → 0 ≡ pass_code g s tri map (length dldw) four → Lent p g s (view_of tri map) n
-      → new ≡ summed_over (image_of p.view) (vertices_of p) (shown p.view) dldw 0 (p.view.size.w * p.view.size.h) old → outcome 0 new ≡ interpolating_bwd g s tri map dldw old
+      → new ≡ summed_over (image_of p.view) (vertices_of p.vertices) (shown p.view) dldw 0 (p.view.size.w * p.view.size.h) old → outcome 0 new ≡ interpolating_bwd g s tri map dldw old
   unfolding interpolating_bwd
   done p new e l made =
       call_done old (bwd_code_lem g s tri map dldw old f e) refl
       (made
-      ∙ ap (λ (i : Image). summed_over i (vertices_of p) (shown p.view) dldw 0 (i.w * i.h) old) l.of_image
+      ∙ ap (λ (i : Image). summed_over i (vertices_of p.vertices) (shown p.view) dldw 0 (i.w * i.h) old) l.of_image
       ∙ ap₂ (λ (t : Vertices) (v : View). summed_over g t v dldw 0 (g.w * g.h) old) l.of_vertices l.of_view)
 
 -- what is known of the lengths then
 module _ (p : Pass) {g : Image} {s : Vertices} {v : View} {n : ℕ} (l : Lent p g s v n) where
-  pub incoming_whole : n ≡ p.view.size.w * p.view.size.h * p.num_vdim
-  incoming_whole =
-      l.channels
-      ∙ ap (λ (i : Image). i.w * i.h * s.channels) (sym l.of_image)
-      ∙ ap (λ (t : Vertices). p.view.size.w * p.view.size.h * t.channels) (sym l.of_vertices)
-
   pub sums_whole : {four : Bool} (xyz val : ℕ) → four ≡ exact (length s.xyz) xyz && exact (length s.val) val → four ≡ true
-      → (xyz ≡ length p.view.mesh.vtx2xyz.now) × (val ≡ length p.vtx2val.now)
+      → (xyz ≡ length p.vertices.vtx2xyz.now) × (val ≡ length p.vertices.vtx2val.now)
   sums_whole xyz val f e =
       let yes = both (exact (length s.xyz) xyz) _ (sym f ∙ e) in
       (exactly _ _ yes.0 ∙ ap (λ (t : Vertices). length t.xyz) (sym l.of_vertices), exactly _ _ yes.1 ∙ ap (λ (t : Vertices). length t.val) (sym l.of_vertices))

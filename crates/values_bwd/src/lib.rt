@@ -58,11 +58,11 @@ pub fn interpolate_bwd(
         exact,
     )?;
     let mut sums = Backward {
-        pass: &pass,
+        vertices: &pass.vertices,
         dldw: dldw_pix2val,
         dxyz: dldw_vtx2xyz,
         dval: dldw_vtx2val,
     };
-    image_bwd::add_image(&mut sums);
+    image_bwd::add_image(&mut sums, &pass.view);
     Ok(())
 }

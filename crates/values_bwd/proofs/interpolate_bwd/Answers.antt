@@ -1,5 +1,5 @@
 use Rattle.std.proofs.Common.{rules}
-use Rattle.values_bwd.proofs.Bwd.{not_done, done, incoming_whole, sums_whole}
+use Rattle.values_bwd.proofs.Bwd.{not_done, done, sums_whole}
 use Rattle.values_bwd.proofs.interpolate_bwd.Goals as goal
 
 pub returns-in_err-pass : goal.returns-in_err-pass
@@ -9,7 +9,7 @@ pub invariant_of-sums : goal.invariant_of-sums
 invariant_of-sums c =
     let lent = c.in_ok-pass.ensures.lent in
     let whole = sums_whole _ lent _ _ c.sums_ok-exact.ensures c.in_ok-pass.ensures.exact in
-    record { incoming = incoming_whole _ lent; xyz = whole.0; val = whole.1 }
+    record { xyz = whole.0; val = whole.1 }
 
 pub returns : goal.returns
 returns c = done _ _ _ _ _ _ c.sums_ok-exact.ensures c.in_ok-pass.pass _ c.in_ok-pass.ensures.code c.in_ok-pass.ensures.lent (search rules)
