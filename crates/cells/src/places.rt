@@ -12,6 +12,7 @@ use crate::buffers::{Cell, Layer};
 use geometry::Weights;
 
 // Depth −infinity, the map's entry 4294967295 and three zeros at n pixels, in one pass over the three buffers.
+#[tactic(auto, using(crate::proofs::Laws::Pixels::spans_reaches))]
 pub fn clear(pix2tri: &mut [u32], pix2depth: &mut [f32], pix2weights: &mut [f32], n: usize)
     requires { Spans (layer pix2tri.old pix2depth.old pix2weights.old) n }
     ensures { layer pix2tri.new pix2depth.new pix2weights.new ≡ pixelwise n (λ p. cell.clear) }
@@ -101,6 +102,7 @@ fn join_pixel(
 }
 
 // At each of n pixels the right layer's cell when its depth is greater.
+#[tactic(auto, using(crate::proofs::Laws::Pixels::spans_reaches))]
 pub fn join(
     pix2tri: &mut [u32],
     pix2depth: &mut [f32],

@@ -1,14 +1,11 @@
 -- `places::clear`: one pixel more is clear at each turn.
 use lib.Ieee.{of_bits}
 use Rattle.std.proofs.Common.{arith}
-use Rattle.cells.proofs.Laws.Pixels.{turned_none, turned_more, turned_all, spans_reaches}
+use Rattle.cells.proofs.Laws.Pixels.{turned_none, turned_more, turned_all}
 use Rattle.cells.proofs.places.clear.Goals as goal
 
 pub loop-i-init : goal.loop-i-init
 loop-i-init c = turned_none _ _ _ c.requires
-
-pub write-requires : goal.write-requires
-write-requires c = spans_reaches c.loop-i.invariant.spans c.loop-i.i (omega (arith, c.loop-i-test.true))
 
 pub loop-i-preserved : goal.loop-i-preserved
 unfolding of_bits
