@@ -16,7 +16,6 @@ use Rattle.cells.proofs.Laws.Put.{never_greater}
 use Rattle.pixels.specs.Pixel.{centre}
 use Rattle.rules.specs.Scan.{depth_at}
 use Rattle.rules.specs.Visits.{visited}
-use Rattle.rules.proofs.Laws.Visited.{spans-visited}
 use Rattle.lanes.specs.Answer.{or_lowest}
 use Rattle.boxes.proofs.Reaching.{below_or}
 use Rattle.blocks.specs.Rows.{depth_cells, rows_down, up_to}

@@ -105,8 +105,9 @@ fn visit_greater(layer: &mut LayerMut, b: &Brush, p: Pixel, z0: f32, z1: f32, z2
     visit_two(layer, b, Pixel { x: p.x, y: p.y + 2 }, z2, z3);
 }
 
-// Four rows of p's column from p on, as far as they are before y1: four depths are worked out side by side, and the pixels where one can be greater than what
-// is stored are visited. q is the centre of the first; a visit works it out anew, since the compiler would tear the four depths apart to share it.
+// Four rows of p's column from p on, as far as they are before y1: the pixels where a lane's depth can be greater than what is stored are visited. The four
+// lanes stand together, so that a compiler can work them out side by side; today's takes them one after another. q is the centre of the first; a visit works
+// its own out anew, since to share it would tear the four apart.
 pub fn visit_four(layer: &mut LayerMut, b: &Brush, p: Pixel, y1: usize, q: Vec2)
     requires in_row { p.x < layer.old.size.w }
     requires in_column { p.y + 4 ≤ layer.old.size.h }

@@ -5,7 +5,7 @@
 pub mod lines;
 mod reach;
 
-ghost use Rattle.std.specs.Prelude.{◌≡◌, true, MatchOption};
+ghost use Rattle.std.specs.Prelude.{◌≡◌, true, ◌≤◌, MatchOption};
 ghost use Rattle.geometry.specs.Answer.{point3, corners_of};
 ghost use Rattle.rules.specs.Scan as rule;
 ghost use Rattle.boxes.specs.Box.{Meets, Scanned, Unscanned};
@@ -27,41 +27,47 @@ pub struct Box {
 pub fn meets_image(size: ImageSize, t: Triangle<Vec3>) -> bool
     ensures { Meets (rule.screened size.w size.h (corners_of t)) size.w size.h result }
 {
-    Lines::columns(size).spans_centre(t.p0.x, t.p1.x, t.p2.x)
-        && Lines::rows(size).spans_centre(t.p0.y, t.p1.y, t.p2.y)
+    Lines::columns(size.w).spans_centre(t.p0.x, t.p1.x, t.p2.x)
+        && Lines::rows(size.h).spans_centre(t.p0.y, t.p1.y, t.p2.y)
 }
 
 // A corner in pixels, with its depth.
 #[tactic(auto, unfolding(rules::specs::Scan::on_screen))]
-fn on_screen(size: ImageSize, p: Vec3) -> Vec3
-    ensures { point3 result ≡ rule.on_screen size.w size.h (point3 p) }
+fn on_screen(w: usize, h: usize, p: Vec3) -> Vec3
+    requires width { w ≤ 4096 }
+    requires height { h ≤ 4096 }
+    ensures { point3 result ≡ rule.on_screen w h (point3 p) }
 {
     Vec3 {
-        x: Lines::columns(size).in_pixels(p.x),
-        y: Lines::rows(size).in_pixels(p.y),
+        x: Lines::columns(w).in_pixels(p.x),
+        y: Lines::rows(h).in_pixels(p.y),
         z: p.z,
     }
 }
 
 // The corners of a piece in pixels, with their depths.
 #[tactic(auto, unfolding(rules::specs::Scan::screened))]
-pub fn screened(size: ImageSize, t: Triangle<Vec3>) -> Triangle<Vec3>
-    ensures { corners_of result ≡ rule.screened size.w size.h (corners_of t) }
+pub fn screened(w: usize, h: usize, t: Triangle<Vec3>) -> Triangle<Vec3>
+    requires width { w ≤ 4096 }
+    requires height { h ≤ 4096 }
+    ensures { corners_of result ≡ rule.screened w h (corners_of t) }
 {
     Triangle {
-        p0: on_screen(size, t.p0),
-        p1: on_screen(size, t.p1),
-        p2: on_screen(size, t.p2),
+        p0: on_screen(w, h, t.p0),
+        p1: on_screen(w, h, t.p1),
+        p2: on_screen(w, h, t.p2),
     }
 }
 
 // The box that the scan of a piece visits, whose corners are finite: none, where it visits no pixel.
 #[tactic(auto, using(crate::proofs::Scans::no_columns, crate::proofs::Scans::no_rows))]
-pub fn box_of(size: ImageSize, s: Triangle<Vec3>) -> Option<Box>
-    requires { rule.finite_in_pixels (corners_of s) ≡ true }
-    ensures { MatchOption result (Unscanned (corners_of s) size.w size.h) (λ b. Scanned (corners_of s) size.w size.h b) }
+pub fn box_of(w: usize, h: usize, s: Triangle<Vec3>) -> Option<Box>
+    requires width { w ≤ 4096 }
+    requires height { h ≤ 4096 }
+    requires finite { rule.finite_in_pixels (corners_of s) ≡ true }
+    ensures { MatchOption result (Unscanned (corners_of s) w h) (λ b. Scanned (corners_of s) w h b) }
 {
-    let columns = Lines::columns(size).spanned(s.p0.x, s.p1.x, s.p2.x)?;
-    let rows = Lines::rows(size).spanned(s.p0.y, s.p1.y, s.p2.y)?;
+    let columns = Lines::columns(w).spanned(s.p0.x, s.p1.x, s.p2.x)?;
+    let rows = Lines::rows(h).spanned(s.p0.y, s.p1.y, s.p2.y)?;
     Some(Box { columns, rows })
 }

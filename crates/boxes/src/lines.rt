@@ -8,7 +8,6 @@ ghost use Rattle.boxes.specs.Reach.{in_pixels, holds_centre, Tells};
 ghost use Rattle.boxes.specs.Box.{Spanned, Unspanned};
 
 use crate::reach::{self, End};
-use pixels::ImageSize;
 
 // Columns run right, and rows run down.
 #[derive(Clone, Copy)]
@@ -22,7 +21,6 @@ pub enum Along {
 pub struct Lines {
     pub along: Along,
     pub n: usize,
-    pub ghost some: { 1 ≤ n },
     pub ghost most: { n ≤ 4096 },
 }
 
@@ -63,23 +61,25 @@ fn greatest(a: f32, b: f32, c: f32) -> f32
 }
 
 impl Lines {
-    pub fn columns(size: ImageSize) -> Lines
+    pub fn columns(w: usize) -> Lines
+        requires { w ≤ 4096 }
         ensures along { result.along ≡ Along.Columns }
-        ensures n { result.n ≡ size.w }
+        ensures n { result.n ≡ w }
     {
         Lines {
             along: Along::Columns,
-            n: size.w,
+            n: w,
         }
     }
 
-    pub fn rows(size: ImageSize) -> Lines
+    pub fn rows(h: usize) -> Lines
+        requires { h ≤ 4096 }
         ensures along { result.along ≡ Along.Rows }
-        ensures n { result.n ≡ size.h }
+        ensures n { result.n ≡ h }
     {
         Lines {
             along: Along::Rows,
-            n: size.h,
+            n: h,
         }
     }
 
@@ -97,6 +97,7 @@ impl Lines {
     // Each is tested before the next is worked out: all at once, they would be loaded together, before what was stored one by one is there.
     #[tactic(auto, using(crate::proofs::Scans::first_lost, crate::proofs::Scans::second_lost, crate::proofs::Scans::third_lost, crate::proofs::Scans::all_there))]
     pub fn spans_centre(self, a: f32, b: f32, c: f32) -> bool
+        requires { 1 ≤ self.n }
         ensures { Tells (in_pixels self.along self.n a) (in_pixels self.along self.n b) (in_pixels self.along self.n c) self.n result }
     {
         let p = self.in_pixels(a);
@@ -130,6 +131,7 @@ impl Lines {
     // How many centres lie between three corners' coordinates: none where one is not finite in pixels.
     #[tactic(auto, using(crate::proofs::Scans::some_counted, crate::proofs::Scans::none_counted, crate::proofs::Scans::unspanned))]
     pub fn count_centres(self, a: f32, b: f32, c: f32) -> usize
+        requires { 1 ≤ self.n }
         ensures { result ≡ count (holds_centre (in_pixels self.along self.n a) (in_pixels self.along self.n b) (in_pixels self.along self.n c)) (span 0 self.n) }
     {
         if !self.spans_centre(a, b, c) {

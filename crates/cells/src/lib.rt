@@ -2,5 +2,7 @@
 #![tactic(auto)]
 
 mod buffers;
+mod places;
 
 pub use buffers::{Cell, Layer, LayerMut};
+pub use places::{clear, join, put};

@@ -1,5 +1,6 @@
-// The depth that a piece on the screen has at a pixel, or −infinity, worked out straight on, with no early end, so that the compiler works out several pixels
-// side by side. It tells which pixels can be greater than what is stored; a visit of those works their depth out anew, and leaves off where there is none.
+// The depth that a piece on the screen has at a pixel, or −infinity, worked out straight on, with no early end, so that a compiler can work out several pixels
+// side by side; today's takes them one after another. It tells which pixels can be greater than what is stored; a visit of those works their depth out anew,
+// and leaves off where there is none.
 #![tactic(auto)]
 
 ghost use Rattle.std.specs.Prelude.{◌≡◌, cond, Float};

@@ -60,11 +60,11 @@ fn piece_pixels(size: ImageSize, ndc: [[f32; 3]; 3]) -> u64
     ensures { (turned : Bool) → result ≡ rule.piece_pixels size.w size.h (piece_of turned ndc) }
 {
     let t = pieces::corners(ndc);
-    let columns = Lines::columns(size).count_centres(t.p0.x, t.p1.x, t.p2.x);
+    let columns = Lines::columns(size.w).count_centres(t.p0.x, t.p1.x, t.p2.x);
     if columns == 0 {
         return 0;
     }
-    let rows = Lines::rows(size).count_centres(t.p0.y, t.p1.y, t.p2.y);
+    let rows = Lines::rows(size.h).count_centres(t.p0.y, t.p1.y, t.p2.y);
     (columns * rows) as u64
 }
 

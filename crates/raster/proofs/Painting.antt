@@ -17,7 +17,7 @@ use Rattle.rules.specs.Scan.{scans, counts, candidate, screened, centre_at}
 use Rattle.rules.specs.Offers.{piece_brings, pieces_bring}
 use Rattle.rules.specs.Draw.{painted}
 use Rattle.rules.specs.Visits.{visits, visited, piece_cells, stopped_after}
-use Rattle.rules.proofs.Laws.Paint.{spans-painted, painted_none, painted_same, painted-append}
+use Rattle.rules.proofs.Laws.Paint.{painted_none, painted_same, painted-append}
 use Rattle.rules.proofs.Laws.Visited.{stopped_same}
 use Rattle.rules.specs.Weighs.{Weighs}
 use Rattle.rules.proofs.Laws.Facing.{counted_same}
@@ -53,10 +53,6 @@ module _ (n : ℕ) (facing : Facing) (w h k : ℕ) (t : Piece) (l : Layer) where
       none (suc m) = refl
 
 -- ---- the pieces of a face
-
--- what is left has its length
-pub spans_left : (os : ℕ → List Cell) (l : Layer) {n : ℕ} {new : Layer} → new ≡ painted os n l → Spans new n
-spans_left os l {n} e = rw e (spans-painted os n l)
 
 module _ (facing : Facing) (w h k : ℕ) where
   pub no_pieces : (p : ℕ) → pieces_cells facing w h [] k p ≡ []

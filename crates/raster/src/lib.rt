@@ -36,8 +36,8 @@ pub fn rasterize_projected_tri(
     if !boxes::meets_image(size, corners) {
         return;
     }
-    let screen = boxes::screened(size, corners);
-    let Some(area) = boxes::box_of(size, screen) else {
+    let screen = boxes::screened(size.w, size.h, corners);
+    let Some(area) = boxes::box_of(size.w, size.h, screen) else {
         return;
     };
     let side = Side::of(facing, turned);

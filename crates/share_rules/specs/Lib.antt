@@ -2,6 +2,7 @@
 pub mod Shares
 pub mod Additions
 pub mod Steps
+pub mod Sides
 pub mod Unequal
 -- proved of the definitions above
 pub mod Laws

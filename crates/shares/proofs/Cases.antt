@@ -2,13 +2,11 @@
 use Prim.Native.Nat.{ℕ}
 use mathlib.Core.Path.{◌≡◌, refl, sym, ◌∙◌, ap₂}
 use mathlib.Core.Bool.{Bool, true, false, cond}
-use mathlib.Core.Option.{none, some}
+use mathlib.Core.Option.{some}
 use mathlib.Core.List.{List, [], ◌∷◌, ◌++◌, flat_map, append-nil}
 use lib.Ieee.{Float}
 use Rattle.geometry.specs.Vector.{Vec2, Vec3, Projected, Triangle}
 use Rattle.meshes.specs.Mesh.{Face}
-use Rattle.geometry.specs.Answer.{point2}
-use Rattle.meshes.specs.Answer.{maybe_face}
 use Rattle.meshes.specs.Sums.{Addition, summed}
 use Rattle.pixels.specs.Edge.{Axis, Edge}
 use Rattle.pairs.specs.Pairs.{EdgeView}
@@ -22,7 +20,8 @@ use Rattle.crossings.specs.Crossing.{along, skipped, coefficient0, coefficient1,
 use Rattle.scattering.specs.Scattering.{given}
 use Rattle.share_rules.specs.Shares.{Share, share, crossing, between, shares_at}
 use Rattle.share_rules.specs.Steps.{beside_empty}
-use Rattle.share_rules.specs.Laws.{both_empty, both_contain, second-contains, first-contains, neither_contains}
+use Rattle.share_rules.specs.Sides.{shares_of}
+use Rattle.share_rules.specs.Laws.{both_contain, second-contains, first-contains, neither_contains}
 use Rattle.share_rules.specs.Additions.{additions_of, pair_additions}
 use Rattle.shares.specs.Steps.{given_both, given_crossing}
 
@@ -60,12 +59,6 @@ module _ {m xyz : List Float} {f : Face} {x : Triangle (Vec3 Float)} {t : Triang
   unfolding beside_empty
   beside_one e = rw (inside_is o other, e) (one_adds o d own (along axis))
 
--- ---- two empty pixels
-
-pub nothing_added : (axis : ℕ) (m xyz : List Float) (q0 q1 : Vec2 Float) (d : Float) → flat_map (additions_of m xyz d) (between axis m xyz none none q0 q1) ≡ []
-unfolding flat_map
-nothing_added axis m xyz q0 q1 d = rw (both_empty axis m xyz q0 q1)
-
 -- ---- two faces, by the two tests
 
 module _ (axis : ℕ) (m xyz : List Float) (f0 f1 : Face) (q0 q1 : Vec2 Float) (d : Float) where
@@ -98,6 +91,6 @@ module _ (a : Axis) (s : EdgeView) (v : PixelValues) (e : Edge) where
 
   pub unequal_adds : {h : ℕ} {r : Unequal} → UnequalAt a s h e r
       → pair_additions a s v e
-      ≡ flat_map (additions_of s.matrix s.vertices (dldr v r.p r.q)) (between a.down s.matrix s.vertices (maybe_face r.first) (maybe_face r.second) (point2 r.q0) (point2 r.q1))
+      ≡ flat_map (additions_of s.matrix s.vertices (dldr v r.p r.q)) (shares_of a.down s.matrix s.vertices r.sides)
   unfolding pair_additions
   unequal_adds k = rw (k.p_number, k.q_number, k.shares)

@@ -1,13 +1,14 @@
 // What one pair adds: the shares of two faces, or of one beside an empty pixel. No function here is a public call.
 #![tactic(auto)]
 
-ghost use Rattle.std.specs.Prelude.{◌≡◌, ◌*◌, ◌/◌, ◌<◌, length, IfSome};
+ghost use Rattle.std.specs.Prelude.{◌≡◌, true, ◌*◌, ◌/◌, ◌<◌, length};
 ghost use Rattle.std.proofs.Math.Option.{some};
 ghost use mathlib.Core.List.{flat_map};
 ghost use Rattle.geometry.specs.Answer.{point2};
 ghost use Rattle.meshes.specs.Mesh.{Among};
-ghost use Rattle.meshes.specs.Answer.{face_of, maybe_face};
+ghost use Rattle.meshes.specs.Answer.{face_of};
 ghost use Rattle.meshes.specs.Sums.{summed};
+ghost use Rattle.pairs.specs.Pairs.{answered};
 ghost use Rattle.pairs.specs.Steps.{Within};
 ghost use Rattle.pairs.specs.Answer.{axis_of, edge_of, seen_of};
 ghost use Rattle.pairs.specs.Values.{values_of};
@@ -16,12 +17,13 @@ ghost use Rattle.tris.specs.Tri.{Projects};
 ghost use Rattle.share_rules.specs.Shares.{between};
 ghost use Rattle.share_rules.specs.Additions.{additions_of, pair_additions};
 ghost use Rattle.share_rules.specs.Steps.{beside_empty};
+ghost use Rattle.share_rules.specs.Sides.{SidesProject, shares_of};
 ghost use Rattle.shares.specs.Steps.{given_crossing};
 
 use geometry::Vec2;
 use pairs::PixelValues;
-use pixels::{Axis, Pixel};
-use share_rules::{AxisPairs, Side, Unequal};
+use pixels::Pixel;
+use share_rules::{AxisPairs, PixelFace, Sides};
 use tris::Tri;
 
 // An intersection's two shares, each from its own `Tri` and centre.
@@ -29,16 +31,16 @@ use tris::Tri;
 fn scatter_intersection_gradient(
     sums: &mut [f32],
     m: &[f32; 16],
-    axis: Axis,
-    first: Side,
-    second: Side,
+    axis: usize,
+    first: PixelFace,
+    second: PixelFace,
     t0: Tri,
     t1: Tri,
     d: f32,
 )
     requires first { Among (length sums.old / 3) (face_of first.face) }
     requires second { Among (length sums.old / 3) (face_of second.face) }
-    ensures { sums.new ≡ summed sums.old (given_crossing m.now axis.down d (face_of first.face) (face_of second.face)
+    ensures { sums.new ≡ summed sums.old (given_crossing m.now axis d (face_of first.face) (face_of second.face)
         (corners_in t0) (corners_in t1) (projected_in t0) (projected_in t1) (point2 first.centre) (point2 second.centre)) }
 {
     let n0 = t0.unormal_pix();
@@ -53,7 +55,7 @@ fn scatter_intersection_gradient(
 }
 
 // A face beside an empty pixel, whose centre is `other`.
-fn scatter_beside_empty(sums: &mut [f32], pairs: &AxisPairs, own: Side, other: Vec2, d: f32)
+fn scatter_beside_empty(sums: &mut [f32], pairs: &AxisPairs, own: PixelFace, other: Vec2, d: f32)
     requires projects { Projects pairs.now.view.m.now pairs.now.view.mesh.vtx2xyz.now (face_of own.face) }
     requires lent { length sums.old ≡ length pairs.now.view.mesh.vtx2xyz.now }
     ensures { sums.new ≡ summed sums.old (flat_map (additions_of pairs.now.view.m.now pairs.now.view.mesh.vtx2xyz.now d)
@@ -64,12 +66,12 @@ fn scatter_beside_empty(sums: &mut [f32], pairs: &AxisPairs, own: Side, other: V
     if t.is_inside(other) {
         return;
     }
-    let g = crossings::along(pairs.axis, d);
+    let g = crossings::along(pairs.axis.down, d);
     scattering::scatter(sums, m, own.face, t, own.centre, g);
 }
 
 // Two faces, by which of the two centres lies inside the other's face: mostly neither does, and no more is worked out.
-fn scatter_between(sums: &mut [f32], pairs: &AxisPairs, first: Side, second: Side, d: f32)
+fn scatter_between(sums: &mut [f32], pairs: &AxisPairs, first: PixelFace, second: PixelFace, d: f32)
     requires first { Projects pairs.now.view.m.now pairs.now.view.mesh.vtx2xyz.now (face_of first.face) }
     requires second { Projects pairs.now.view.m.now pairs.now.view.mesh.vtx2xyz.now (face_of second.face) }
     requires lent { length sums.old ≡ length pairs.now.view.mesh.vtx2xyz.now }
@@ -83,48 +85,29 @@ fn scatter_between(sums: &mut [f32], pairs: &AxisPairs, first: Side, second: Sid
         let t0 = Tri::new(mesh, m, first.face);
         if t0.is_inside(second.centre) {
             let t1 = Tri::new(mesh, m, second.face);
-            scatter_intersection_gradient(sums, m, pairs.axis, first, second, t0, t1, d);
+            scatter_intersection_gradient(sums, m, pairs.axis.down, first, second, t0, t1, d);
         } else {
-            let g = crossings::along(pairs.axis, d);
+            let g = crossings::along(pairs.axis.down, d);
             scattering::scatter(sums, m, first.face, t0, first.centre, g);
         }
     } else if inside::face_contains(mesh, m, first.face, second.centre) {
         let t1 = Tri::new(mesh, m, second.face);
-        let g = crossings::along(pairs.axis, d);
+        let g = crossings::along(pairs.axis.down, d);
         scattering::scatter(sums, m, second.face, t1, second.centre, g);
     }
 }
 
 // A pair whose entries are not equal.
-#[tactic(auto, using(crate::proofs::Cases::nothing_added, share_rules::specs::Laws::after_empty, share_rules::specs::Laws::before_empty), unfolding(meshes::specs::Sums::summed))]
-fn scatter_unequal(sums: &mut [f32], pairs: &AxisPairs, pair: Unequal, d: f32)
-    requires first { IfSome pair.first (λ f. Projects pairs.now.view.m.now pairs.now.view.mesh.vtx2xyz.now (face_of f)) }
-    requires second { IfSome pair.second (λ f. Projects pairs.now.view.m.now pairs.now.view.mesh.vtx2xyz.now (face_of f)) }
+fn scatter_unequal(sums: &mut [f32], pairs: &AxisPairs, sides: Sides, d: f32)
+    requires projects { SidesProject pairs.now.view.m.now pairs.now.view.mesh.vtx2xyz.now sides }
     requires lent { length sums.old ≡ length pairs.now.view.mesh.vtx2xyz.now }
     ensures { sums.new ≡ summed sums.old (flat_map (additions_of pairs.now.view.m.now pairs.now.view.mesh.vtx2xyz.now d)
-        (between pairs.now.axis.down pairs.now.view.m.now pairs.now.view.mesh.vtx2xyz.now (maybe_face pair.first) (maybe_face pair.second)
-        (point2 pair.q0) (point2 pair.q1))) }
+        (shares_of pairs.now.axis.down pairs.now.view.m.now pairs.now.view.mesh.vtx2xyz.now sides)) }
 {
-    let Unequal { q0, q1, .. } = pair;
-    match (pair.first, pair.second) {
-        (Some(f0), Some(f1)) => {
-            let first = Side {
-                face: f0,
-                centre: q0,
-            };
-            let second = Side {
-                face: f1,
-                centre: q1,
-            };
-            scatter_between(sums, pairs, first, second, d);
-        }
-        (Some(face), None) => {
-            scatter_beside_empty(sums, pairs, Side { face, centre: q0 }, q1, d);
-        }
-        (None, Some(face)) => {
-            scatter_beside_empty(sums, pairs, Side { face, centre: q1 }, q0, d);
-        }
-        (None, None) => {}
+    match sides {
+        Sides::Both(first, second) => scatter_between(sums, pairs, first, second, d),
+        Sides::Beside(own, other) => scatter_beside_empty(sums, pairs, own, other, d),
+        Sides::Neither => {}
     }
 }
 
@@ -132,6 +115,7 @@ fn scatter_unequal(sums: &mut [f32], pairs: &AxisPairs, pair: Unequal, d: f32)
 #[tactic(auto, using(crate::proofs::Cases::equal_adds))]
 pub fn scatter_pair(sums: &mut [f32], pairs: &AxisPairs, values: &PixelValues, p: Pixel)
     requires within { Within pairs.now.view.size.w pairs.now.view.size.h pairs.now.axis.right pairs.now.axis.down p.x p.y }
+    requires answered { answered (seen_of pairs.now.view) (edge_of pairs.now.axis p) ≡ true }
     requires pixels { values.now.pixels ≡ pairs.now.view.size.w * pairs.now.view.size.h }
     requires lent { length sums.old ≡ length pairs.now.view.mesh.vtx2xyz.now }
     ensures { sums.new
@@ -140,5 +124,5 @@ pub fn scatter_pair(sums: &mut [f32], pairs: &AxisPairs, values: &PixelValues, p
     let Some(pair) = pairs.unequal(p) else {
         return;
     };
-    scatter_unequal(sums, pairs, pair, values.dldr(pair.p, pair.q));
+    scatter_unequal(sums, pairs, pair.sides, values.dldr(pair.p, pair.q));
 }

@@ -2,14 +2,12 @@
 use Prim.Native.Nat.{ℕ}
 use mathlib.Core.Path.{◌≡◌, refl, sym, ◌∙◌, ap, ap₂}
 use mathlib.Core.Bool.{Bool, true, false, ◌&&◌, ◌||◌, and-true, cond}
-use mathlib.Core.Option.{none, some}
+use mathlib.Core.Option.{some}
 use mathlib.Core.List.{List, [], ◌∷◌}
 use lib.Ieee.{Float}
 use Rattle.geometry.specs.Vector.{Vec2, Vec3, Projected, Triangle}
 use Rattle.meshes.specs.Mesh.{Face}
 use Rattle.lists.specs.Lists.{span, every}
-use Rattle.geometry.specs.Answer.{point2}
-use Rattle.meshes.specs.Answer.{maybe_face}
 use Rattle.share_rules.specs.Unequal.{UnequalAt}
 use Rattle.share_rules.specs.declared.Unequal.{Unequal}
 use Rattle.pixels.specs.Edge.{Axis, Edge, rows}
@@ -23,8 +21,9 @@ use Rattle.tris.specs.Tri.{unormal, TriOf}
 use Rattle.tris.specs.Laws.{inside_is, world_is}
 use Rattle.crossings.specs.Crossing.{along, skipped, coefficient0, coefficient1, g_pix}
 use Rattle.share_rules.specs.Shares.{Share, share, crossing, between, shares_at}
-use Rattle.share_rules.specs.Laws.{both_empty, after_empty, before_empty, both_contain, second-contains, first-contains, neither_contains}
+use Rattle.share_rules.specs.Laws.{both_contain, second-contains, first-contains, neither_contains}
 use Rattle.share_rules.specs.Steps.{beside_empty}
+use Rattle.share_rules.specs.Sides.{shares_of}
 use Rattle.unwraps.specs.Unwraps.{weighable, weighable_all, unwraps, all_unwraps}
 use Rattle.unwraps.specs.Steps.{crossing_answered}
 
@@ -65,18 +64,7 @@ beside_weighs axis m xyz f own other = go (contains all_inside m xyz (some f) ot
     go true = refl
     go false = sym (and-true (present (world_in own (project_face m xyz f))))
 
--- ---- what a pair shows whose entries are not equal
-
-module _ (axis : ℕ) (m xyz : List Float) (q0 q1 : Vec2 Float) where
-  pub nothing_weighs : weighable_all m xyz (between axis m xyz none none q0 q1) ≡ true
-  unfolding weighable_all
-  nothing_weighs = rw (both_empty axis m xyz q0 q1)
-
-  pub after_weighs : (f : Face) → weighable_all m xyz (between axis m xyz none (some f) q0 q1) ≡ contains all_inside m xyz (some f) q0 || present (world_in q1 (project_face m xyz f))
-  after_weighs f = rw (after_empty axis m xyz f q0 q1) (sym (beside_weighs axis m xyz f q1 q0))
-
-  pub before_weighs : (f : Face) → weighable_all m xyz (between axis m xyz (some f) none q0 q1) ≡ contains all_inside m xyz (some f) q1 || present (world_in q0 (project_face m xyz f))
-  before_weighs f = rw (before_empty axis m xyz f q0 q1) (sym (beside_weighs axis m xyz f q0 q1))
+-- ---- two faces, by the two tests
 
 module _ {m xyz : List Float} {f0 f1 : Face} {x0 x1 : Triangle (Vec3 Float)} {t0 t1 : Triangle (Projected Float)} (o0 : TriOf m xyz f0 x0 t0) (o1 : TriOf m xyz f1 x1 t1) (axis : ℕ)
     (q0 q1 : Vec2 Float) where
@@ -104,7 +92,7 @@ module _ (a : Axis) (s : EdgeView) (e : Edge) where
   equal_unwraps k = rw k
 
   pub unequal_unwraps : {h : ℕ} {r : Unequal} → UnequalAt a s h e r
-      → unwraps a s e ≡ weighable_all s.matrix s.vertices (between a.down s.matrix s.vertices (maybe_face r.first) (maybe_face r.second) (point2 r.q0) (point2 r.q1))
+      → unwraps a s e ≡ weighable_all s.matrix s.vertices (shares_of a.down s.matrix s.vertices r.sides)
   unfolding unwraps
   unequal_unwraps k = rw k.shares
 

@@ -1,26 +1,27 @@
 // Question 9: has `barycentric_world` an answer for each share of a pair, of an axis, of both? No function here is a public call.
 #![tactic(auto)]
 
-ghost use Rattle.std.specs.Prelude.{◌≡◌, true, ◌+◌, ◌&&◌, ◌||◌, ◌<◌, IfSome};
+ghost use Rattle.std.specs.Prelude.{◌≡◌, true, ◌+◌, ◌&&◌, ◌||◌, ◌<◌};
 ghost use Rattle.std.proofs.Math.Option.{some};
 ghost use Rattle.geometry.specs.Answer.{point2};
 ghost use Rattle.meshes.specs.Mesh.{project_face};
-ghost use Rattle.meshes.specs.Answer.{face_of, maybe_face};
+ghost use Rattle.meshes.specs.Answer.{face_of};
 ghost use Rattle.inside.specs.Inside.{all_inside, contains, present};
-ghost use Rattle.pairs.specs.Pairs.{both_answered};
+ghost use Rattle.pairs.specs.Pairs.{answered, all_answered, both_answered};
 ghost use Rattle.pairs.specs.Steps.{Within, row_passes};
 ghost use Rattle.pairs.specs.Answer.{axis_of, edge_of, seen_of};
 ghost use Rattle.tris.specs.Weights.{world_in};
 ghost use Rattle.tris.specs.Answer.{projected_in};
 ghost use Rattle.tris.specs.Tri.{Projects};
 ghost use Rattle.share_rules.specs.Shares.{between};
+ghost use Rattle.share_rules.specs.Sides.{SidesProject, shares_of};
 ghost use Rattle.unwraps.specs.Unwraps.{weighable_all, unwraps, all_unwraps, both_unwrap};
 ghost use Rattle.unwraps.specs.Steps.{crossing_answered};
 
 use geometry::Vec2;
 use meshes::View;
 use pixels::{Axis, Pixel};
-use share_rules::{AxisPairs, Side, Unequal};
+use share_rules::{AxisPairs, PixelFace, Sides};
 use tris::Tri;
 
 // Have both faces their weights?
@@ -32,14 +33,14 @@ fn both_weigh(t0: Tri, t1: Tri, q0: Vec2, q1: Vec2) -> bool
 
 // Question 9 of an intersection. The weights come first: where both are there, the normals need no root.
 #[tactic(auto, using(crate::proofs::Cases::either), unfolding(crate::specs::Steps::crossing_answered))]
-fn crossing_ok(axis: Axis, t0: Tri, t1: Tri, q0: Vec2, q1: Vec2) -> bool
-    ensures { result ≡ crossing_answered axis.down (projected_in t0) (projected_in t1) (point2 q0) (point2 q1) }
+fn crossing_ok(axis: usize, t0: Tri, t1: Tri, q0: Vec2, q1: Vec2) -> bool
+    ensures { result ≡ crossing_answered axis (projected_in t0) (projected_in t1) (point2 q0) (point2 q1) }
 {
     both_weigh(t0, t1, q0, q1) || crossings::skipped(axis, t0.unormal_pix(), t1.unormal_pix())
 }
 
 // Question 9 of a face beside an empty pixel, whose centre is `other`.
-fn beside_empty_ok(pairs: &AxisPairs, own: Side, other: Vec2) -> bool
+fn beside_empty_ok(pairs: &AxisPairs, own: PixelFace, other: Vec2) -> bool
     requires { Projects pairs.now.view.m.now pairs.now.view.mesh.vtx2xyz.now (face_of own.face) }
     ensures { result ≡ (contains all_inside pairs.now.view.m.now pairs.now.view.mesh.vtx2xyz.now (some (face_of own.face)) (point2 other)
         || present (world_in (point2 own.centre) (project_face pairs.now.view.m.now pairs.now.view.mesh.vtx2xyz.now (face_of own.face)))) }
@@ -49,7 +50,7 @@ fn beside_empty_ok(pairs: &AxisPairs, own: Side, other: Vec2) -> bool
 }
 
 // Question 9 of two faces.
-fn between_ok(pairs: &AxisPairs, first: Side, second: Side) -> bool
+fn between_ok(pairs: &AxisPairs, first: PixelFace, second: PixelFace) -> bool
     requires first { Projects pairs.now.view.m.now pairs.now.view.mesh.vtx2xyz.now (face_of first.face) }
     requires second { Projects pairs.now.view.m.now pairs.now.view.mesh.vtx2xyz.now (face_of second.face) }
     ensures { result ≡ weighable_all pairs.now.view.m.now pairs.now.view.mesh.vtx2xyz.now
@@ -59,7 +60,7 @@ fn between_ok(pairs: &AxisPairs, first: Side, second: Side) -> bool
     let t0 = Tri::new(&pairs.view.mesh, pairs.view.m, first.face);
     let t1 = Tri::new(&pairs.view.mesh, pairs.view.m, second.face);
     match (t1.is_inside(first.centre), t0.is_inside(second.centre)) {
-        (true, true) => crossing_ok(pairs.axis, t0, t1, first.centre, second.centre),
+        (true, true) => crossing_ok(pairs.axis.down, t0, t1, first.centre, second.centre),
         (true, false) => t0.has_world(first.centre),
         (false, true) => t1.has_world(second.centre),
         (false, false) => true,
@@ -67,41 +68,28 @@ fn between_ok(pairs: &AxisPairs, first: Side, second: Side) -> bool
 }
 
 // Question 9 of a pair whose entries are not equal.
-#[tactic(auto, using(crate::proofs::Cases::nothing_weighs, crate::proofs::Cases::after_weighs, crate::proofs::Cases::before_weighs))]
-fn unequal_ok(pairs: &AxisPairs, pair: Unequal) -> bool
-    requires first { IfSome pair.first (λ f. Projects pairs.now.view.m.now pairs.now.view.mesh.vtx2xyz.now (face_of f)) }
-    requires second { IfSome pair.second (λ f. Projects pairs.now.view.m.now pairs.now.view.mesh.vtx2xyz.now (face_of f)) }
+#[tactic(auto, using(crate::proofs::Cases::beside_weighs), unfolding(crate::specs::Unwraps::weighable_all))]
+fn unequal_ok(pairs: &AxisPairs, sides: Sides) -> bool
+    requires { SidesProject pairs.now.view.m.now pairs.now.view.mesh.vtx2xyz.now sides }
     ensures { result ≡ weighable_all pairs.now.view.m.now pairs.now.view.mesh.vtx2xyz.now
-        (between pairs.now.axis.down pairs.now.view.m.now pairs.now.view.mesh.vtx2xyz.now (maybe_face pair.first) (maybe_face pair.second)
-        (point2 pair.q0) (point2 pair.q1)) }
+        (shares_of pairs.now.axis.down pairs.now.view.m.now pairs.now.view.mesh.vtx2xyz.now sides) }
 {
-    let Unequal { q0, q1, .. } = pair;
-    match (pair.first, pair.second) {
-        (Some(f0), Some(f1)) => {
-            let first = Side {
-                face: f0,
-                centre: q0,
-            };
-            let second = Side {
-                face: f1,
-                centre: q1,
-            };
-            between_ok(pairs, first, second)
-        }
-        (Some(face), None) => beside_empty_ok(pairs, Side { face, centre: q0 }, q1),
-        (None, Some(face)) => beside_empty_ok(pairs, Side { face, centre: q1 }, q0),
-        (None, None) => true,
+    match sides {
+        Sides::Both(first, second) => between_ok(pairs, first, second),
+        Sides::Beside(own, other) => beside_empty_ok(pairs, own, other),
+        Sides::Neither => true,
     }
 }
 
 // Question 9 of the pair whose first pixel is p.
 #[tactic(auto, using(crate::proofs::Cases::equal_unwraps))]
 fn pair_ok(pairs: &AxisPairs, p: Pixel) -> bool
-    requires { Within pairs.now.view.size.w pairs.now.view.size.h pairs.now.axis.right pairs.now.axis.down p.x p.y }
+    requires within { Within pairs.now.view.size.w pairs.now.view.size.h pairs.now.axis.right pairs.now.axis.down p.x p.y }
+    requires answered { answered (seen_of pairs.now.view) (edge_of pairs.now.axis p) ≡ true }
     ensures { result ≡ unwraps (axis_of pairs.now.axis) (seen_of pairs.now.view) (edge_of pairs.now.axis p) }
 {
     match pairs.unequal(p) {
-        Some(pair) => unequal_ok(pairs, pair),
+        Some(pair) => unequal_ok(pairs, pair.sides),
         None => true,
     }
 }
@@ -109,7 +97,8 @@ fn pair_ok(pairs: &AxisPairs, p: Pixel) -> bool
 // Question 9 of the pairs whose first pixels lie in row y.
 #[tactic(auto, using(lists::specs::Laws::Every::every_none, lists::specs::Laws::Every::every_next), unfolding(pairs::specs::Steps::row_passes))]
 fn row_ok(pairs: &AxisPairs, y: usize) -> bool
-    requires { y + pairs.now.axis.down < pairs.now.view.size.h }
+    requires in_column { y + pairs.now.axis.down < pairs.now.view.size.h }
+    requires answered { all_answered (axis_of pairs.now.axis) pairs.now.view.size.h (seen_of pairs.now.view) ≡ true }
     ensures { result ≡ row_passes (unwraps (axis_of pairs.now.axis) (seen_of pairs.now.view)) (axis_of pairs.now.axis) pairs.now.view.size.w y }
 {
     for x in 0..pairs.view.size.w - pairs.axis.right {
@@ -123,6 +112,7 @@ fn row_ok(pairs: &AxisPairs, y: usize) -> bool
 // Question 9 of an axis, row by row.
 #[tactic(auto, using(lists::specs::Laws::Every::every_none, lists::specs::Laws::Every::every_next))]
 fn all_ok(pairs: &AxisPairs) -> bool
+    requires { all_answered (axis_of pairs.now.axis) pairs.now.view.size.h (seen_of pairs.now.view) ≡ true }
     ensures { result ≡ all_unwraps (axis_of pairs.now.axis) pairs.now.view.size.h (seen_of pairs.now.view) }
 {
     for y in 0..pairs.view.size.h - pairs.axis.down {

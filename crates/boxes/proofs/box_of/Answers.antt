@@ -5,4 +5,4 @@ use Rattle.boxes.proofs.box_of.Goals as goal
 
 pub returns : goal.returns
 returns c = let a = c.args in
-    spans_scanned (corners_of a.s) a.size.w a.size.h _ c.requires (rw c.columns.ensures.n at c.in_ok-columns.ensures) (rw c.rows.ensures.n at c.in_ok-rows.ensures)
+    spans_scanned (corners_of a.s) a.w a.h _ c.requires.finite (rw c.columns.ensures.n at c.in_ok-columns.ensures) (rw c.rows.ensures.n at c.in_ok-rows.ensures)

@@ -1,5 +1,6 @@
-use Rattle.pairs.specs.Answer.{axis_of, seen_of}
-use Rattle.share_rules.specs.Laws.{shares_equal, shares_unequal, first-projects, second-projects, answered-at}
+use Rattle.std.proofs.Common.{◌∙◌, sym}
+use Rattle.pairs.specs.Answer.{axis_of}
+use Rattle.share_rules.specs.Laws.{shares_equal, shares_unequal, first-projects, second-projects}
 use Rattle.share_rules.proofs.AxisPairs.unequal.Goals as goal
 
 pub returns-then-pair : goal.returns-then-pair
@@ -11,17 +12,21 @@ returns c =
     let v = c.args.self.now.view in
     let a = axis_of c.args.self.now.axis in
     let tri = v.mesh.tri2vtx.now in
+    let m = v.m.now in
     let xyz = v.mesh.vtx2xyz.now in
     let k = c.pair_at-pair.ensures.pair in
-    let ok = answered-at (seen_of v) v.size.h a c.requires c.args.self.now.answered in
+    let ne = c.if-pair.false in
+    let ok = c.requires.answered in
+    let first = c.named-first.ensures in
+    let second = c.named-second.ensures in
     record {
       p_number = k.p_number;
       p_below = k.p_below;
       q_number = k.q_number;
       q_below = k.q_below;
-      first = first-projects tri v.m.now xyz k c.if-pair.false ok _ c.named.ensures.among c.named.ensures.face;
-      second = second-projects tri v.m.now xyz k c.if-pair.false ok _ c.named-2.ensures.among c.named-2.ensures.face;
+      projects = c.new.ensures.projects m xyz (first-projects tri m xyz k ne ok _ first.among first.face) (second-projects tri m xyz k ne ok _ second.among second.face);
       shares =
-          rw (c.named.ensures.face, c.named-2.ensures.face, c.centre_of.ensures, c.centre_of-2.ensures, c.neighbour.ensures.column, c.neighbour.ensures.row)
-          (shares_unequal tri v.m.now xyz a k c.if-pair.false);
+          rw (first.face, second.face, c.centre_of-q0.ensures, c.centre_of-q1.ensures, c.neighbour.ensures.column, c.neighbour.ensures.row)
+          (shares_unequal tri m xyz a k ne)
+          ∙ sym (c.new.ensures.shares a.down m xyz);
     }

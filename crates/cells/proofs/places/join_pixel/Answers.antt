@@ -1,14 +1,13 @@
--- `LayerMut::join_pixel`: number, depth and weights, each chosen by the same test.
+-- `places::join_pixel`: number, depth and weights, each chosen by the same test.
 use Rattle.std.specs.Prelude.{ℕ, ◌≡◌, refl, Bool, true, false, cond, Float}
 use Rattle.std.proofs.Common.{◌∙◌, ap}
 use Rattle.std.specs.Float.Ieee.{lt}
 use Rattle.geometry.specs.Vector.{Weights, weights}
 use Rattle.offers.specs.Offer.{pick, exceeds}
 use Rattle.cells.specs.Cell.{cell}
-use Rattle.cells.specs.Layer.{weights_at}
+use Rattle.cells.specs.Layer.{layer, weights_at}
 use Rattle.cells.specs.Steps.{written}
-use Rattle.cells.specs.Lent.{held}
-use Rattle.cells.proofs.buffers.LayerMut.join_pixel.Goals as goal
+use Rattle.cells.proofs.places.join_pixel.Goals as goal
 
 chosen : (t : Bool) (a b : Float) (m n : ℕ) (x y : Weights Float)
     → cell (cond t b a) (cond t n m) (weights (cond t y.b0 x.b0) (cond t y.b1 x.b1) (cond t y.b2 x.b2)) ≡ cond t (cell b n y) (cell a m x)
@@ -20,9 +19,9 @@ picked : (a b : Float) (m n : ℕ) (x y : Weights Float)
 unfolding pick exceeds
 picked a b m n x y = chosen (lt a b) a b m n x y
 
-pub returns-clause-written : goal.returns-clause-written
+pub returns : goal.returns
 unfolding weights_at
-returns-clause-written c =
-    c.write.ensures.written
-    ∙ ap (written (held c.args.self.now) c.args.p)
+returns c = let a = c.args in
+    c.write.ensures
+    ∙ ap (written (layer a.pix2tri.now a.pix2depth.now a.pix2weights.now) a.p)
     (rw (c.pick-depth.ensures, c.pick-number.ensures, c.pick.ensures, c.pick-2.ensures, c.pick-3.ensures) (picked _ _ _ _ _ _))
