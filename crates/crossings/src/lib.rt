@@ -1,5 +1,5 @@
-// Two faces that cross between two pixels, of their unit normals in the image. `axis` is 0 for pairs side by side, 1 for pairs one above the other: an
-// `Axis` would ask more, since in the definition every number names one. No function here is a public call.
+// Two faces that cross between two pixels, of their unit normals in the image. The Rust's axis is `axis.down`: 0 for pairs side by side, 1 for pairs one
+// above the other. No function here is a public call.
 #![tactic(auto)]
 
 ghost use Rattle.std.specs.Prelude.{◌≡◌};
@@ -7,21 +7,22 @@ ghost use Rattle.geometry.specs.Answer.{point3};
 ghost use Rattle.crossings.specs.Crossing as spec;
 
 use geometry::Vec3;
+use pixels::Axis;
 
 // The coordinate along the axis.
 #[tactic(auto, unfolding(crate::specs::Crossing::component))]
-fn component(axis: usize, n: Vec3) -> f32
-    ensures { result ≡ spec.component axis (point3 n) }
+fn component(axis: Axis, n: Vec3) -> f32
+    ensures { result ≡ spec.component axis.down (point3 n) }
 {
-    if axis == 0 { n.x } else { n.y }
+    if axis.down == 0 { n.x } else { n.y }
 }
 
 // d along the axis.
 #[tactic(auto, unfolding(crate::specs::Crossing::along))]
-pub fn along(axis: usize, d: f32) -> Vec3
-    ensures { point3 result ≡ spec.along axis d }
+pub fn along(axis: Axis, d: f32) -> Vec3
+    ensures { point3 result ≡ spec.along axis.down d }
 {
-    if axis == 0 {
+    if axis.down == 0 {
         Vec3 {
             x: d,
             y: 0.0,
@@ -37,15 +38,15 @@ pub fn along(axis: usize, d: f32) -> Vec3
 }
 
 #[tactic(auto, unfolding(crate::specs::Crossing::denominator))]
-fn denominator(axis: usize, n0: Vec3, n1: Vec3) -> f32
-    ensures { result ≡ spec.denominator axis (point3 n0) (point3 n1) }
+fn denominator(axis: Axis, n0: Vec3, n1: Vec3) -> f32
+    ensures { result ≡ spec.denominator axis.down (point3 n0) (point3 n1) }
 {
     component(axis, n0) * n1.z - n0.z * component(axis, n1)
 }
 
 #[tactic(auto, unfolding(crate::specs::Crossing::scale))]
-fn scale(axis: usize, n0: Vec3, n1: Vec3) -> f32
-    ensures { result ≡ spec.scale axis (point3 n0) (point3 n1) }
+fn scale(axis: Axis, n0: Vec3, n1: Vec3) -> f32
+    ensures { result ≡ spec.scale axis.down (point3 n0) (point3 n1) }
 {
     floats::hypot_f32(component(axis, n0), n0.z) * floats::hypot_f32(component(axis, n1), n1.z)
 }
@@ -66,24 +67,24 @@ fn skips(denom: f32, scale: f32) -> bool
 
 // Are the planes with the normals n0 and n1 so nearly parallel that their intersection is skipped?
 #[tactic(auto, unfolding(crate::specs::Crossing::skipped))]
-pub fn skipped(axis: usize, n0: Vec3, n1: Vec3) -> bool
-    ensures { result ≡ spec.skipped axis (point3 n0) (point3 n1) }
+pub fn skipped(axis: Axis, n0: Vec3, n1: Vec3) -> bool
+    ensures { result ≡ spec.skipped axis.down (point3 n0) (point3 n1) }
 {
     skips(denominator(axis, n0, n1), scale(axis, n0, n1))
 }
 
 // The first share's coefficient.
 #[tactic(auto, unfolding(crate::specs::Crossing::coefficient0))]
-pub fn coefficient0(axis: usize, n0: Vec3, n1: Vec3) -> f32
-    ensures { result ≡ spec.coefficient0 axis (point3 n0) (point3 n1) }
+pub fn coefficient0(axis: Axis, n0: Vec3, n1: Vec3) -> f32
+    ensures { result ≡ spec.coefficient0 axis.down (point3 n0) (point3 n1) }
 {
     n1.z / denominator(axis, n0, n1)
 }
 
 // The second share's, which the document defines by itself.
 #[tactic(auto, unfolding(crate::specs::Crossing::coefficient1))]
-pub fn coefficient1(axis: usize, n0: Vec3, n1: Vec3) -> f32
-    ensures { result ≡ spec.coefficient1 axis (point3 n0) (point3 n1) }
+pub fn coefficient1(axis: Axis, n0: Vec3, n1: Vec3) -> f32
+    ensures { result ≡ spec.coefficient1 axis.down (point3 n0) (point3 n1) }
 {
     -n0.z / denominator(axis, n0, n1)
 }

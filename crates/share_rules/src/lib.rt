@@ -81,7 +81,7 @@ impl AxisPairs<'_> {
         ensures { MatchOption result (shares_at (axis_of self.now.axis) (seen_of self.now.view) (edge_of self.now.axis p) ≡ [])
             (UnequalAt (axis_of self.now.axis) (seen_of self.now.view) self.now.view.size.h (edge_of self.now.axis p)) }
     {
-        let pair = pairs::pair_at(&self.view, p, self.axis);
+        let pair = pairs::seen_pair(&self.view, p, self.axis);
         if pair.first == pair.second {
             return None;
         }

@@ -22,7 +22,7 @@ ghost use Rattle.shares.specs.Steps.{given_crossing};
 
 use geometry::Vec2;
 use pairs::PixelValues;
-use pixels::Pixel;
+use pixels::{Axis, Pixel};
 use share_rules::{AxisPairs, PixelFace, Sides};
 use tris::Tri;
 
@@ -31,7 +31,7 @@ use tris::Tri;
 fn scatter_intersection_gradient(
     sums: &mut [f32],
     m: &[f32; 16],
-    axis: usize,
+    axis: Axis,
     first: PixelFace,
     second: PixelFace,
     t0: Tri,
@@ -40,7 +40,7 @@ fn scatter_intersection_gradient(
 )
     requires first { Among (length sums.old / 3) (face_of first.face) }
     requires second { Among (length sums.old / 3) (face_of second.face) }
-    ensures { sums.new ≡ summed sums.old (given_crossing m.now axis d (face_of first.face) (face_of second.face)
+    ensures { sums.new ≡ summed sums.old (given_crossing m.now axis.down d (face_of first.face) (face_of second.face)
         (corners_in t0) (corners_in t1) (projected_in t0) (projected_in t1) (point2 first.centre) (point2 second.centre)) }
 {
     let n0 = t0.unormal_pix();
@@ -66,7 +66,7 @@ fn scatter_beside_empty(sums: &mut [f32], pairs: &AxisPairs, own: PixelFace, oth
     if t.is_inside(other) {
         return;
     }
-    let g = crossings::along(pairs.axis.down, d);
+    let g = crossings::along(pairs.axis, d);
     scattering::scatter(sums, m, own.face, t, own.centre, g);
 }
 
@@ -85,14 +85,14 @@ fn scatter_between(sums: &mut [f32], pairs: &AxisPairs, first: PixelFace, second
         let t0 = Tri::new(mesh, m, first.face);
         if t0.is_inside(second.centre) {
             let t1 = Tri::new(mesh, m, second.face);
-            scatter_intersection_gradient(sums, m, pairs.axis.down, first, second, t0, t1, d);
+            scatter_intersection_gradient(sums, m, pairs.axis, first, second, t0, t1, d);
         } else {
-            let g = crossings::along(pairs.axis.down, d);
+            let g = crossings::along(pairs.axis, d);
             scattering::scatter(sums, m, first.face, t0, first.centre, g);
         }
     } else if inside::face_contains(mesh, m, first.face, second.centre) {
         let t1 = Tri::new(mesh, m, second.face);
-        let g = crossings::along(pairs.axis.down, d);
+        let g = crossings::along(pairs.axis, d);
         scattering::scatter(sums, m, second.face, t1, second.centre, g);
     }
 }

@@ -1,7 +1,7 @@
 // Question 9: has `barycentric_world` an answer for each share of a pair, of an axis, of both? No function here is a public call.
 #![tactic(auto)]
 
-ghost use Rattle.std.specs.Prelude.{◌≡◌, true, ◌+◌, ◌&&◌, ◌||◌, ◌<◌};
+ghost use Rattle.std.specs.Prelude.{◌≡◌, true, ◌+◌, ◌&&◌, ◌||◌, ◌≤◌, ◌<◌};
 ghost use Rattle.std.proofs.Math.Option.{some};
 ghost use Rattle.geometry.specs.Answer.{point2};
 ghost use Rattle.meshes.specs.Mesh.{project_face};
@@ -33,8 +33,8 @@ fn both_weigh(t0: Tri, t1: Tri, q0: Vec2, q1: Vec2) -> bool
 
 // Question 9 of an intersection. The weights come first: where both are there, the normals need no root.
 #[tactic(auto, using(crate::proofs::Cases::either), unfolding(crate::specs::Steps::crossing_answered))]
-fn crossing_ok(axis: usize, t0: Tri, t1: Tri, q0: Vec2, q1: Vec2) -> bool
-    ensures { result ≡ crossing_answered axis (projected_in t0) (projected_in t1) (point2 q0) (point2 q1) }
+fn crossing_ok(axis: Axis, t0: Tri, t1: Tri, q0: Vec2, q1: Vec2) -> bool
+    ensures { result ≡ crossing_answered axis.down (projected_in t0) (projected_in t1) (point2 q0) (point2 q1) }
 {
     both_weigh(t0, t1, q0, q1) || crossings::skipped(axis, t0.unormal_pix(), t1.unormal_pix())
 }
@@ -60,7 +60,7 @@ fn between_ok(pairs: &AxisPairs, first: PixelFace, second: PixelFace) -> bool
     let t0 = Tri::new(&pairs.view.mesh, pairs.view.m, first.face);
     let t1 = Tri::new(&pairs.view.mesh, pairs.view.m, second.face);
     match (t1.is_inside(first.centre), t0.is_inside(second.centre)) {
-        (true, true) => crossing_ok(pairs.axis.down, t0, t1, first.centre, second.centre),
+        (true, true) => crossing_ok(pairs.axis, t0, t1, first.centre, second.centre),
         (true, false) => t0.has_world(first.centre),
         (false, true) => t1.has_world(second.centre),
         (false, false) => true,
@@ -97,6 +97,7 @@ fn pair_ok(pairs: &AxisPairs, p: Pixel) -> bool
 // Question 9 of the pairs whose first pixels lie in row y.
 #[tactic(auto, using(lists::specs::Laws::Every::every_none, lists::specs::Laws::Every::every_next), unfolding(pairs::specs::Steps::row_passes))]
 fn row_ok(pairs: &AxisPairs, y: usize) -> bool
+    requires columns { pairs.now.axis.right ≤ pairs.now.view.size.w }
     requires in_column { y + pairs.now.axis.down < pairs.now.view.size.h }
     requires answered { all_answered (axis_of pairs.now.axis) pairs.now.view.size.h (seen_of pairs.now.view) ≡ true }
     ensures { result ≡ row_passes (unwraps (axis_of pairs.now.axis) (seen_of pairs.now.view)) (axis_of pairs.now.axis) pairs.now.view.size.w y }
@@ -112,7 +113,9 @@ fn row_ok(pairs: &AxisPairs, y: usize) -> bool
 // Question 9 of an axis, row by row.
 #[tactic(auto, using(lists::specs::Laws::Every::every_none, lists::specs::Laws::Every::every_next))]
 fn all_ok(pairs: &AxisPairs) -> bool
-    requires { all_answered (axis_of pairs.now.axis) pairs.now.view.size.h (seen_of pairs.now.view) ≡ true }
+    requires columns { pairs.now.axis.right ≤ pairs.now.view.size.w }
+    requires rows { pairs.now.axis.down ≤ pairs.now.view.size.h }
+    requires answered { all_answered (axis_of pairs.now.axis) pairs.now.view.size.h (seen_of pairs.now.view) ≡ true }
     ensures { result ≡ all_unwraps (axis_of pairs.now.axis) pairs.now.view.size.h (seen_of pairs.now.view) }
 {
     for y in 0..pairs.view.size.h - pairs.axis.down {

@@ -5,7 +5,7 @@ use Rattle.share_rules.proofs.AxisPairs.unequal.Goals as goal
 
 pub returns-then-pair : goal.returns-then-pair
 returns-then-pair c =
-    let v = c.args.self.now.view in shares_equal v.mesh.tri2vtx.now v.m.now v.mesh.vtx2xyz.now (axis_of c.args.self.now.axis) c.pair_at-pair.ensures.pair c.if-pair.true
+    let v = c.args.self.now.view in shares_equal v.mesh.tri2vtx.now v.m.now v.mesh.vtx2xyz.now (axis_of c.args.self.now.axis) c.seen_pair-pair.ensures.pair c.if-pair.true
 
 pub returns : goal.returns
 returns c =
@@ -14,7 +14,7 @@ returns c =
     let tri = v.mesh.tri2vtx.now in
     let m = v.m.now in
     let xyz = v.mesh.vtx2xyz.now in
-    let k = c.pair_at-pair.ensures.pair in
+    let k = c.seen_pair-pair.ensures.pair in
     let ne = c.if-pair.false in
     let ok = c.requires.answered in
     let first = c.named-first.ensures in
