@@ -1,5 +1,5 @@
-// The steps on three buffers that a call is lent, of one pixel or of n. They ask only that the buffers reach or span these: the methods of `LayerMut` ask
-// an image, and call them.
+// One pixel of three lent buffers, and n of them: beside the methods of `LayerMut`, which call these, since they ask less than a layer of an image says: that
+// the buffers reach the pixel, or span the n.
 ghost use Rattle.std.specs.Prelude.{◌≡◌, cond};
 ghost use Rattle.std.specs.Float.Ieee.{lt};
 ghost use Rattle.offers.specs.Offer as offer;
@@ -64,8 +64,8 @@ fn pick<T: Copy>(a: f32, b: f32, of_a: T, of_b: T) -> T
     if a < b { of_b } else { of_a }
 }
 
-// The right layer's cell at pixel p, when its depth is greater. Each of the five is a choice between two values and no branch, so that the compiler
-// joins several pixels at a time.
+// The right layer's cell at pixel p, when its depth is greater. Each of the five is a choice between two values and no branch, so that a compiler can join
+// several pixels at a time.
 fn join_pixel(
     pix2tri: &mut [u32],
     pix2depth: &mut [f32],
