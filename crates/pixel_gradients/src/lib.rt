@@ -45,5 +45,6 @@ pub fn gradients_at(vertices: &Vertices, f: Face, r: Ray, dldw: &[f32], at: usiz
     ensures { gradients_of result ≡ gradients_at (vertices_of vertices.now) (face_of f) (ray_of r) (incoming_at dldw.now at) }
 {
     let b = gather(vertices, f, dldw, at);
-    rays_bwd::plane_backward(meshes::corners(vertices.vtx2xyz, f), r, 0.0, b.b1 - b.b0, b.b2 - b.b0)
+    let p = meshes::corners(vertices.vtx2xyz, f);
+    rays_bwd::plane_backward(p, r, 0.0, b.b1 - b.b0, b.b2 - b.b0)
 }
