@@ -1,7 +1,7 @@
 // What both values passes ask before they write, and what they know then. Nothing here writes, and no function here is a public call.
 #![tactic(auto)]
 
-ghost use Rattle.std.specs.Prelude.{◌≡◌, ◌*◌, ◌/◌, ◌<◌, ◌≤◌, true, length, IfOk};
+ghost use Rattle.std.specs.Prelude.{◌≡◌, ◌&&◌, ◌*◌, ◌/◌, ◌<◌, ◌≤◌, true, length, IfOk};
 ghost use Rattle.questions.specs.Questions.{most_count};
 ghost use Rattle.questions.specs.Laws.{Channels};
 ghost use Rattle.meshes.specs.View.{view_of};
@@ -45,7 +45,7 @@ impl Vertices<'_> {
     }
 }
 
-// Question 4 of the buffers that both passes are lent, by their lengths.
+// Question 4 of the buffers that both passes are lent, by their lengths; `others`: have those that one pass alone is lent the exact length?
 #[tactic(auto, using(crate::specs::Laws::few_fits, questions::specs::Laws::area_fits), unfolding(questions::specs::Questions::exact, crate::specs::Questions::exact_counts))]
 fn exact_ok(
     size: ImageSize,
@@ -54,13 +54,14 @@ fn exact_ok(
     map: usize,
     val: usize,
     pixels: usize,
+    others: bool,
 ) -> bool
     requires channels { Channels c }
     requires vertices_few { vertices ≤ most_count }
-    ensures { result ≡ exact_counts size.w size.h c vertices map val pixels }
+    ensures { result ≡ exact_counts size.w size.h c vertices map val pixels && others }
 {
     let n = size.pixels();
-    map == n && val == vertices * c && pixels == n * c
+    map == n && val == vertices * c && pixels == n * c && others
 }
 
 impl<'a> Pass<'a> {
@@ -87,8 +88,16 @@ impl<'a> Pass<'a> {
         questions::ask_opening(w, h, num_vdim, tri2vtx.len(), vtx2xyz.len())?;
         let size = ImageSize { w, h };
         let count = vtx2xyz.len() / 3;
-        let exact = exact_ok(size, num_vdim, count, pix2tri.len(), vtx2val.len(), pixels);
-        ask(exact && others, Refusal::Lengths)?;
+        let exact = exact_ok(
+            size,
+            num_vdim,
+            count,
+            pix2tri.len(),
+            vtx2val.len(),
+            pixels,
+            others,
+        );
+        ask(exact, Refusal::Lengths)?;
         questions::ask_naming(count, tri2vtx, pix2tri)?;
         let mesh = Mesh { tri2vtx, vtx2xyz };
         let view = View {
