@@ -7,7 +7,7 @@ ghost use Rattle.geometry.specs.Formula as formula;
 ghost use Rattle.geometry.specs.Vector as vector;
 ghost use Rattle.std.specs.Float.Ieee.Scale as scale;
 ghost use Rattle.geometry.specs.Leaf as leaf;
-ghost use Rattle.geometry.specs.Answer.{point2, point3, weights_of, maybe_weights, corner_weights_of, projection_of};
+ghost use Rattle.geometry.specs.Answer.{point2, point3, weights_of, maybe_weights, corner_weights_of, projected_of, projection_of};
 
 // A point or a vector of the plane, of the picture in pixels or in normalised device coordinates.
 #[derive(Clone, Copy)]
@@ -124,8 +124,22 @@ pub fn row(m: &[f32; 16], r: usize, x: Vec3) -> f32
     m[r] * x.x + m[4 + r] * x.y + m[8 + r] * x.z + m[12 + r]
 }
 
+// Rows 0 to 2 over a divisor, and the divisor.
+#[tactic(auto, unfolding(crate::specs::Formula::over))]
+pub fn over(m: &[f32; 16], x: Vec3, w: f32) -> Projected
+    ensures { projected_of result ≡ formula.over floats (formula.row floats (leaf.entries m.now) 0 (point3 x))
+        (formula.row floats (leaf.entries m.now) 1 (point3 x)) (formula.row floats (leaf.entries m.now) 2 (point3 x)) w }
+{
+    let p = Vec3 {
+        x: row(m, 0, x) / w,
+        y: row(m, 1, x) / w,
+        z: row(m, 2, x) / w,
+    };
+    Projected { p, w }
+}
+
 // The point that the matrix takes x to, none where the divisor is 0.
-#[tactic(auto, unfolding(crate::specs::Leaf::project, crate::specs::Leaf::divided, crate::specs::Formula::over))]
+#[tactic(auto, unfolding(crate::specs::Leaf::project, crate::specs::Leaf::divided))]
 pub fn project(m: &[f32; 16], x: Vec3) -> Option<Projected>
     ensures { projection_of result ≡ leaf.project m.now (point3 x) }
 {
@@ -133,10 +147,5 @@ pub fn project(m: &[f32; 16], x: Vec3) -> Option<Projected>
     if w == 0.0 {
         return None;
     }
-    let p = Vec3 {
-        x: row(m, 0, x) / w,
-        y: row(m, 1, x) / w,
-        z: row(m, 2, x) / w,
-    };
-    Some(Projected { p, w })
+    Some(over(m, x, w))
 }

@@ -20,17 +20,11 @@ pub struct Mat3 {
 }
 
 // The projected point and its divisor, which may be 0.
-#[tactic(auto, unfolding(crate::specs::Formula::project_untested, geometry::specs::Formula::over))]
+#[tactic(auto, unfolding(crate::specs::Formula::project_untested))]
 pub fn project_untested(m: &[f32; 16], x: Vec3) -> Projected
     ensures { projected_of result ≡ formula.project_untested floats (entries m.now) (point3 x) }
 {
-    let w = geometry::row(m, 3, x);
-    let p = Vec3 {
-        x: geometry::row(m, 0, x) / w,
-        y: geometry::row(m, 1, x) / w,
-        z: geometry::row(m, 2, x) / w,
-    };
-    Projected { p, w }
+    geometry::over(m, x, geometry::row(m, 3, x))
 }
 
 // Entry 3k + r, of the projected point's coordinate r and its divisor.

@@ -7,6 +7,7 @@
 use cells::{Cell, LayerMut};
 use geometry::Weights;
 use pixels::ImageSize;
+use questions::EMPTY;
 use rules::Facing;
 use std::io;
 use std::io::{Read, Write};
@@ -15,8 +16,6 @@ use words::{f32_of, of_f32};
 const SIZE: ImageSize = ImageSize { w: 5, h: 9 };
 
 const PIXELS: usize = 45;
-
-const EMPTY: u32 = 0xffff_ffff;
 
 const WEIGHT: f32 = 0.5;
 

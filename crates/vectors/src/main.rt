@@ -12,13 +12,35 @@ use std::io::{Read, Write};
 // Every word, and what the first of two counts.
 const WORDS: u64 = 0x1_0000_0000;
 
-fn answer(tool: u32, high: u32, low: u32) -> u64 {
+#[derive(Clone, Copy)]
+enum Tool {
+    SqrtF32,
+    SqrtF64,
+    Narrow,
+    Hypot,
+}
+
+impl From<u32> for Tool {
+    fn from(number: u32) -> Tool {
+        match number {
+            1 => Tool::SqrtF32,
+            2 => Tool::SqrtF64,
+            3 => Tool::Narrow,
+            _ => Tool::Hypot,
+        }
+    }
+}
+
+fn answer(tool: Tool, high: u32, low: u32) -> u64 {
     let pattern = high as u64 * WORDS + low as u64;
     match tool {
-        1 => words::of_f32(roots::sqrt_f32(words::f32_of(low))) as u64,
-        2 => words::of_f64(roots::sqrt_f64(words::f64_of(pattern))),
-        3 => words::of_f32(floats::narrow_f64_to_f32(words::f64_of(pattern))) as u64,
-        _ => words::of_f32(floats::hypot_f32(words::f32_of(high), words::f32_of(low))) as u64,
+        Tool::SqrtF32 => words::of_f32(roots::sqrt_f32(words::f32_of(low))) as u64,
+        Tool::SqrtF64 => words::of_f64(roots::sqrt_f64(words::f64_of(pattern))),
+        Tool::Narrow => words::of_f32(floats::narrow_f64_to_f32(words::f64_of(pattern))) as u64,
+        Tool::Hypot => words::of_f32(floats::hypot_f32(
+            words::f32_of(high),
+            words::f32_of(low),
+        )) as u64,
     }
 }
 
@@ -28,7 +50,7 @@ fn run_one<R: Read, W: Write>(input: &mut R, output: &mut W) -> io::Result<bool>
         return Ok(false);
     };
     let [tool, high, low]: [u32; 3] = vector;
-    let bits = answer(tool, high, low);
+    let bits = answer(Tool::from(tool), high, low);
     writeln!(
         output,
         "{tool:08x} {high:08x} {low:08x} {:08x} {:08x}",
