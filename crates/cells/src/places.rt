@@ -11,7 +11,8 @@ ghost use Rattle.cells.specs.Lent.{lent, cell_of};
 use crate::buffers::{Cell, Layer};
 use geometry::Weights;
 
-// Depth −infinity, the map's entry 4294967295 and three zeros at n pixels, in one pass over the three buffers.
+// Depth −infinity, the map's entry 4294967295 and three zeros at n pixels, in one pass over the three buffers: each filled by the library's word takes 1.28 of
+// its time, and asks for C's `memset`.
 #[tactic(auto, using(crate::proofs::Laws::Pixels::spans_reaches))]
 pub fn clear(pix2tri: &mut [u32], pix2depth: &mut [f32], pix2weights: &mut [f32], n: usize)
     requires { Spans (layer pix2tri.old pix2depth.old pix2weights.old) n }

@@ -51,6 +51,7 @@ fn scale(axis: Axis, n0: Vec3, n1: Vec3) -> f32
     floats::hypot_f32(component(axis, n0), n0.z) * floats::hypot_f32(component(axis, n1), n1.z)
 }
 
+// The document's: of either zero, that zero. The library's `abs` clears the sign of −0.
 #[tactic(auto, unfolding(crate::specs::Crossing::magnitude))]
 fn magnitude(x: f32) -> f32
     ensures { result ≡ spec.magnitude x }

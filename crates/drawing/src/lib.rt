@@ -1,4 +1,4 @@
-// Drawing: the public call `pix2tri_by_rasterization`.
+// Drawing: the public call `pix2tri_by_rasterization`, with C's parameters in C's order.
 #![tactic(auto)]
 
 ghost use Rattle.std.specs.Prelude.{◌≡◌};

@@ -1,4 +1,4 @@
-// Edges: the public call `bwd`.
+// Edges: the public call `bwd`, with C's parameters in C's order.
 #![tactic(auto)]
 
 ghost use Rattle.std.specs.Prelude.{◌≡◌};

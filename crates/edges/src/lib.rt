@@ -1,4 +1,4 @@
-// Edges: the public call `edge_gradient_and_type`.
+// Edges: the public call `edge_gradient_and_type`, with C's parameters in C's order.
 #![tactic(auto)]
 
 ghost use Rattle.std.specs.Prelude.{◌≡◌, ◌≤◌};

@@ -1,4 +1,4 @@
-// Layers: the public calls `clear` and `join`.
+// Layers: the public calls `clear` and `join`, with C's parameters in C's order.
 #![tactic(auto)]
 
 ghost use Rattle.std.specs.Prelude.{◌≡◌, ◌*◌};

@@ -55,7 +55,7 @@ impl From<Result<Load, Refusal>> for DrawingLoad {
 }
 
 // The pixels that the scan of a piece offers: its columns times its rows. Pieces off the image leave early. The three corners
-// travel as an array of arrays, by value.
+// travel as an array of arrays, by value, as the specification names it.
 fn piece_pixels(size: ImageSize, ndc: [[f32; 3]; 3]) -> u64
     ensures { (turned : Bool) → result ≡ rule.piece_pixels size.w size.h (piece_of turned ndc) }
 {

@@ -107,7 +107,7 @@ impl Mesh<'_> {
     }
 }
 
-// The three below read any slice that is long enough: they ask less than a mesh says.
+// `face_at`, `vertex` and `corners` read any slice that is long enough: they ask less than a mesh says.
 
 // Face number i.
 #[tactic(auto, unfolding(crate::specs::Mesh::face_at))]

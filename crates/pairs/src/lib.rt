@@ -36,7 +36,7 @@ pub fn neighbour(p: Pixel, axis: Axis) -> Pixel
     }
 }
 
-// The pair of a map whose first pixel is p.
+// The pair of a map whose first pixel is p: it asks the size and the map alone, which is less than a view says.
 #[tactic(auto, using(meshes::specs::Laws::entry_read))]
 pub fn pair_at(size: ImageSize, pix2tri: &[u32], p: Pixel, axis: Axis) -> Pair
     requires map { length pix2tri.now ≡ size.w * size.h }

@@ -34,8 +34,8 @@ pub enum Pieces {
     Two(Lone),
 }
 
-// The three projected corners of a piece travel as an array of arrays, by value: `[[f32; 3]; 3]`, a row for each corner. Whether they are listed turned round
-// stands beside the array.
+// The three projected corners of a piece travel as an array of arrays, by value, as the specification names it: `[[f32; 3]; 3]`, a row for each corner. Whether
+// they are listed turned round stands beside the array.
 
 // The corners that an array of arrays holds.
 pub fn corners(ndc: [[f32; 3]; 3]) -> Triangle<Vec3>

@@ -58,7 +58,8 @@ pub struct Pixel {
     pub y: usize,
 }
 
-// The way from a pair's first pixel to its second: so many columns to the right, so many rows down.
+// The way from a pair's first pixel to its second: so many columns to the right, so many rows down. Any number: who walks an axis
+// asks that it lies in the image.
 #[derive(Clone, Copy)]
 pub struct Axis {
     pub right: usize,

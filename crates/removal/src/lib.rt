@@ -1,4 +1,4 @@
-// A removal seen beforehand: the public call `preview_removal`.
+// A removal seen beforehand: the public call `preview_removal`, with C's parameters in C's order.
 #![tactic(auto)]
 
 ghost use Rattle.std.specs.Prelude.{◌≡◌, ◌&&◌, ◌/◌, ◌≤◌, length};

@@ -26,7 +26,7 @@ use pixels::{Axis, Pixel};
 use share_rules::{AxisPairs, PixelFace, Sides};
 use tris::Tri;
 
-// An intersection's two shares, each from its own `Tri` and centre.
+// An intersection's two shares, each from its own `Tri` and centre. (Eight parameters: a struct of two of each would have no other use.)
 #[tactic(auto, using(meshes::specs::Laws::summed_then), unfolding(crate::specs::Steps::given_crossing, crate::specs::Steps::given_both, meshes::specs::Sums::summed))]
 fn scatter_intersection_gradient(
     sums: &mut [f32],

@@ -37,7 +37,7 @@ fn write_pixel<W: Write>(output: &mut W, p: usize, cell: Cell, before: f32) -> i
     )
 }
 
-// The scan of a piece on a layer of that depth, stopped after n visits. The three corners travel as an array of arrays, by value.
+// The scan of a piece on a layer of that depth, stopped after n visits. The three corners travel as an array of arrays, by value, as the specification names it.
 fn stop<W: Write>(
     output: &mut W,
     number: u32,

@@ -13,6 +13,7 @@ ghost use Rattle.tris.specs.Answer.{corners_in, projected_in};
 use geometry::{CornerWeights, Projected, Triangle, Vec2, Vec3, Weights};
 use meshes::{Face, Mesh};
 
+// Flat arrays, as the specification names them.
 #[derive(Clone, Copy)]
 pub struct Tri {
     pub node2xyz: [f32; 9],

@@ -1,4 +1,4 @@
-// Values: the public call `interpolate`.
+// Values: the public call `interpolate`, with C's parameters in C's order.
 #![tactic(auto)]
 
 ghost use Rattle.std.specs.Prelude.{◌≡◌};

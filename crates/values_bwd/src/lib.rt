@@ -1,4 +1,4 @@
-// The backward pass of values: the public call `interpolate_bwd`.
+// The backward pass of values: the public call `interpolate_bwd`, with C's parameters in C's order.
 #![tactic(auto)]
 
 ghost use Rattle.std.specs.Prelude.{◌≡◌, ◌&&◌};

@@ -1,4 +1,4 @@
-// Velocities of vertices from those on the edges: the public call `interpolate_from_edges`.
+// Velocities of vertices from those on the edges: the public call `interpolate_from_edges`, with C's parameters in C's order.
 #![tactic(auto)]
 
 ghost use Rattle.std.specs.Prelude.{◌≡◌, ◌+◌, ◌*◌, ◌/◌, ◌<◌, length};
