@@ -1,13 +1,13 @@
 // Edges: the public call `bwd`, with C's parameters in C's order.
 #![tactic(auto)]
 
-ghost use Rattle.std.specs.Prelude.{◌≡◌};
+ghost use Rattle.std.specs.Prelude.{◌≡◌, IfOk};
 ghost use Rattle.questions.specs.Questions.{first_no, outcome};
 ghost use Rattle.questions.specs.Answer.{code_of};
 ghost use Rattle.meshes.specs.View.{view_of};
 ghost use Rattle.pairs.specs.Pairs.{edge_view};
 ghost use Rattle.pairs.specs.Gradient.{pixel_values};
-ghost use Rattle.pairs.specs.Answer.{seen_of};
+ghost use Rattle.pairs.specs.Answer.{seen_of, refusal_of, Lent};
 ghost use Rattle.edge_bwd.specs.Calls.{of_pairs, bwd_code, edge_bwd};
 
 use meshes::{Mesh, View};
@@ -28,7 +28,7 @@ fn ask_pairs(view: &View) -> Result<(), Refusal>
     ask(unwraps::both_ok(view), Refusal::Weights)
 }
 
-// Questions 1 to 9.
+// Questions 1 to 9, and the view that they are asked of.
 #[tactic(auto, using(pairs::proofs::Asked::asked), unfolding(questions::specs::Questions::first_no, questions::specs::Questions::exact, crate::specs::Calls::bwd_code))]
 fn ask_bwd<'a>(
     tri2vtx: &'a [u32],
@@ -41,10 +41,11 @@ fn ask_bwd<'a>(
     num_vdim: usize,
     pix2val: &[f32],
     dldw_pix2val: &[f32],
-) -> Result<(), Refusal>
-    ensures { code_of result ≡ bwd_code tri2vtx.now pix2tri.now img_h
+) -> Result<View<'a>, Refusal>
+    ensures code { refusal_of result ≡ bwd_code tri2vtx.now pix2tri.now img_h
         (edge_view (view_of tri2vtx.now pix2tri.now) transform_world2pix.now vtx2xyz.now img_w)
         (pixel_values pix2val.now dldw_pix2val.now num_vdim) dldw_vtx2xyz.now }
+    ensures lent { IfOk result (λ v. Lent v img_h (edge_view (view_of tri2vtx.now pix2tri.now) transform_world2pix.now vtx2xyz.now img_w)) }
 {
     questions::ask_opening(img_w, img_h, num_vdim, tri2vtx.len(), vtx2xyz.len())?;
     let size = ImageSize { w: img_w, h: img_h };
@@ -61,29 +62,30 @@ fn ask_bwd<'a>(
         pix2tri,
         m: transform_world2pix,
     };
-    ask_pairs(&view)
+    ask_pairs(&view)?;
+    Ok(view)
 }
 
 // Adds the gradient of every edge to the vertices of the faces that receive it.
 #[tactic(auto, using(crate::specs::Laws::bwd_accepted, crate::proofs::Calls::bwd_refused, crate::proofs::Calls::bwd_done))]
-pub fn bwd<'a>(
-    tri2vtx: &'a [u32],
-    vtx2xyz: &'a [f32],
+pub fn bwd(
+    tri2vtx: &[u32],
+    vtx2xyz: &[f32],
     dldw_vtx2xyz: &mut [f32],
-    transform_world2pix: &'a [f32; 16],
+    transform_world2pix: &[f32; 16],
     img_w: usize,
     img_h: usize,
-    pix2tri: &'a [u32],
+    pix2tri: &[u32],
     num_vdim: usize,
-    pix2val: &'a [f32],
-    dldw_pix2val: &'a [f32],
+    pix2val: &[f32],
+    dldw_pix2val: &[f32],
 ) -> Result<(), Refusal>
     ensures { outcome (code_of result) dldw_vtx2xyz.new
         ≡ edge_bwd tri2vtx.now pix2tri.now img_h
         (edge_view (view_of tri2vtx.now pix2tri.now) transform_world2pix.now vtx2xyz.now img_w)
         (pixel_values pix2val.now dldw_pix2val.now num_vdim) dldw_vtx2xyz.old }
 {
-    ask_bwd(
+    let view = ask_bwd(
         tri2vtx,
         vtx2xyz,
         dldw_vtx2xyz,
@@ -95,16 +97,8 @@ pub fn bwd<'a>(
         pix2val,
         dldw_pix2val,
     )?;
-    let size = ImageSize { w: img_w, h: img_h };
-    let mesh = Mesh { tri2vtx, vtx2xyz };
-    let view = View {
-        size,
-        mesh,
-        pix2tri,
-        m: transform_world2pix,
-    };
     let values = PixelValues {
-        pixels: size.pixels(),
+        pixels: view.size.pixels(),
         num_vdim,
         pix2val,
         dldw_pix2val,

@@ -9,7 +9,7 @@ ghost use Rattle.geometry.specs.Answer.{point2};
 ghost use Rattle.meshes.specs.View.{named};
 ghost use Rattle.pixels.specs.Edge.{edge_count};
 ghost use Rattle.inside.specs.Inside.{all_inside, contains};
-ghost use Rattle.pairs.specs.Steps.{Within};
+ghost use Rattle.pairs.specs.Steps.{Within, PairAt};
 ghost use Rattle.pairs.specs.Answer.{axis_of, edge_of, seen_of};
 ghost use Rattle.pairs.specs.Values.{values_of};
 ghost use Rattle.edge_types.specs.Types.{type_of};
@@ -36,11 +36,13 @@ fn one_inside(view: &View, pair: Pair, q0: Vec2, q1: Vec2) -> bool
 
 // The type of the pair whose first pixel is p.
 #[tactic(auto, unfolding(crate::specs::Types::type_of, crate::specs::Types::first_in_second, crate::specs::Types::second_in_first))]
-fn edge_type(view: &View, p: Pixel, axis: Axis) -> u8
-    requires { Within view.now.size.w view.now.size.h axis.right axis.down p.x p.y }
+fn edge_type(view: &View, pair: Pair, p: Pixel, axis: Axis) -> u8
+    requires within { Within view.now.size.w view.now.size.h axis.right axis.down p.x p.y }
+    requires pair { PairAt view.now.pix2tri.now view.now.size.w view.now.size.h (edge_of axis p) pair }
+    requires first { names_face (length view.now.mesh.tri2vtx.now / 3) pair.first ≡ true }
+    requires second { names_face (length view.now.mesh.tri2vtx.now / 3) pair.second ≡ true }
     ensures { result ≡ type_of (seen_of view.now) (edge_of axis p) }
 {
-    let pair = pairs::seen_pair(view, p, axis);
     if pair.first == pair.second {
         return 0;
     }
@@ -61,9 +63,10 @@ fn fill_row(view: &View, values: &PixelValues, buffers: &mut AxisBuffers, axis: 
     let columns = view.size.w - axis.right;
     for x in 0..columns {
         let p = Pixel { x, y };
-        let pair = pairs::pair_at(view.size, view.pix2tri, p, axis);
+        let pair = pairs::seen_pair(view, p, axis);
+        let kind = edge_type(view, pair, p, axis);
         let dldr = values.dldr(pair.p, pair.q);
-        buffers.put(y * columns + x, edge_type(view, p, axis), dldr);
+        buffers.put(y * columns + x, kind, dldr);
     }
 }
 

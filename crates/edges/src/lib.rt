@@ -1,13 +1,13 @@
 // Edges: the public call `edge_gradient_and_type`, with C's parameters in C's order.
 #![tactic(auto)]
 
-ghost use Rattle.std.specs.Prelude.{◌≡◌, ◌≤◌};
+ghost use Rattle.std.specs.Prelude.{◌≡◌, ◌≤◌, IfOk};
 ghost use Rattle.questions.specs.Questions.{outcome};
 ghost use Rattle.questions.specs.Answer.{code_of};
 ghost use Rattle.meshes.specs.View.{view_of};
 ghost use Rattle.pairs.specs.Pairs.{edge_view};
 ghost use Rattle.pairs.specs.Gradient.{pixel_values};
-ghost use Rattle.pairs.specs.Answer.{axis_of};
+ghost use Rattle.pairs.specs.Answer.{axis_of, refusal_of, Lent};
 ghost use Rattle.edge_types.specs.Axis.{axis_buffers};
 ghost use Rattle.edges.specs.Calls.{edge_buffers, exact_axis, edge_code, edge_typing};
 
@@ -28,7 +28,7 @@ fn axis_ok(size: ImageSize, axis: Axis, types: &[u8], dldr: &[f32]) -> bool
     types.len() == n && dldr.len() == n
 }
 
-// Questions 1 to 8.
+// Questions 1 to 8, and the view that they are asked of.
 #[tactic(auto, using(pairs::proofs::Asked::asked), unfolding(questions::specs::Questions::first_no, crate::specs::Calls::edge_code))]
 fn ask_edges<'a>(
     tri2vtx: &'a [u32],
@@ -38,17 +38,18 @@ fn ask_edges<'a>(
     img_h: usize,
     pix2tri: &'a [u32],
     num_vdim: usize,
-    pix2val: &'a [f32],
-    dldw_pix2val: &'a [f32],
+    pix2val: &[f32],
+    dldw_pix2val: &[f32],
     hedge2type: &[u8],
     hedge2dldr: &[f32],
     vedge2type: &[u8],
     vedge2dldr: &[f32],
-) -> Result<(), Refusal>
-    ensures { code_of result ≡ edge_code tri2vtx.now pix2tri.now img_h
+) -> Result<View<'a>, Refusal>
+    ensures code { refusal_of result ≡ edge_code tri2vtx.now pix2tri.now img_h
         (edge_view (view_of tri2vtx.now pix2tri.now) transform_world2pix.now vtx2xyz.now img_w)
         (pixel_values pix2val.now dldw_pix2val.now num_vdim)
         (edge_buffers (axis_buffers hedge2type.now hedge2dldr.now) (axis_buffers vedge2type.now vedge2dldr.now)) }
+    ensures lent { IfOk result (λ v. Lent v img_h (edge_view (view_of tri2vtx.now pix2tri.now) transform_world2pix.now vtx2xyz.now img_w)) }
 {
     questions::ask_opening(img_w, img_h, num_vdim, tri2vtx.len(), vtx2xyz.len())?;
     let size = ImageSize { w: img_w, h: img_h };
@@ -65,21 +66,22 @@ fn ask_edges<'a>(
         pix2tri,
         m: transform_world2pix,
     };
-    ask(pairs::both_answered(&view), Refusal::Projections)
+    ask(pairs::both_answered(&view), Refusal::Projections)?;
+    Ok(view)
 }
 
 // The type and the gradient `dldr` of every pair of neighbouring pixels.
 #[tactic(auto, using(crate::specs::Laws::edge_accepted, crate::proofs::Calls::edge_refused, crate::proofs::Calls::edge_done))]
-pub fn edge_gradient_and_type<'a>(
-    tri2vtx: &'a [u32],
-    vtx2xyz: &'a [f32],
-    transform_world2pix: &'a [f32; 16],
+pub fn edge_gradient_and_type(
+    tri2vtx: &[u32],
+    vtx2xyz: &[f32],
+    transform_world2pix: &[f32; 16],
     img_w: usize,
     img_h: usize,
-    pix2tri: &'a [u32],
+    pix2tri: &[u32],
     num_vdim: usize,
-    pix2val: &'a [f32],
-    dldw_pix2val: &'a [f32],
+    pix2val: &[f32],
+    dldw_pix2val: &[f32],
     hedge2type: &mut [u8],
     hedge2dldr: &mut [f32],
     vedge2type: &mut [u8],
@@ -91,7 +93,7 @@ pub fn edge_gradient_and_type<'a>(
         (pixel_values pix2val.now dldw_pix2val.now num_vdim)
         (edge_buffers (axis_buffers hedge2type.old hedge2dldr.old) (axis_buffers vedge2type.old vedge2dldr.old)) }
 {
-    ask_edges(
+    let view = ask_edges(
         tri2vtx,
         vtx2xyz,
         transform_world2pix,
@@ -106,15 +108,8 @@ pub fn edge_gradient_and_type<'a>(
         vedge2type,
         vedge2dldr,
     )?;
-    let size = ImageSize { w: img_w, h: img_h };
-    let view = View {
-        size,
-        mesh: Mesh { tri2vtx, vtx2xyz },
-        pix2tri,
-        m: transform_world2pix,
-    };
     let values = PixelValues {
-        pixels: size.pixels(),
+        pixels: view.size.pixels(),
         num_vdim,
         pix2val,
         dldw_pix2val,

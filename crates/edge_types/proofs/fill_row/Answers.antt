@@ -16,11 +16,11 @@ put-requires c =
 
 pub loop-x-preserved : goal.loop-x-preserved
 loop-x-preserved c =
-    let k = c.pair_at-pair.ensures in
+    let k = c.seen_pair-pair.ensures.pair in
     record {
       same = same_then c.loop-x.invariant.same c.put.ensures.same;
       filled =
           c.put.ensures.put
           ∙ pair_filled (axis_of c.args.axis) (seen_of c.args.view.now) (values_of c.args.values.now) c.args.y c.loop-x.x _
-          c.loop-x-test.true c.loop-x.invariant.filled c.edge_type.ensures (c.dldr-dldr.ensures ∙ ap₂ (dldr _) k.p_number k.q_number);
+          c.loop-x-test.true c.loop-x.invariant.filled c.edge_type-kind.ensures (c.dldr-dldr.ensures ∙ ap₂ (dldr _) k.p_number k.q_number);
     }
