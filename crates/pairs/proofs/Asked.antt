@@ -1,5 +1,5 @@
 -- What an edge pass knows past its questions, each asked by `ask` or together with others.
-use Rattle.std.specs.Prelude.{ℕ, ◌/◌, ◌≡◌, refl, Bool, true, false, cond, Ok, Err, List, [], length, Float}
+use Rattle.std.specs.Prelude.{ℕ, ◌/◌, ◌≡◌, true, List, [], length, Float}
 use Rattle.std.proofs.Common.{sym}
 use Rattle.questions.proofs.Laws.Refusals.{yes}
 use Rattle.questions.specs.Questions.{first_no, opening, naming}
