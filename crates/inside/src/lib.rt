@@ -47,10 +47,8 @@ pub fn face_contains(mesh: &Mesh, m: &[f32; 16], f: Face, q: Vec2) -> bool
     requires { Among (length mesh.now.vtx2xyz.now / 3) (face_of f) }
     ensures { result ≡ spec.contains spec.all_inside m.now mesh.now.vtx2xyz.now (some (face_of f)) (point2 q) }
 {
-    match mesh.project(m, f) {
-        Some(t) => all_inside(weights_in(q, t)),
-        None => false,
-    }
+    mesh.project(m, f)
+        .is_some_and(|t| all_inside(weights_in(q, t)))
 }
 
 // Does what a pixel shows contain the point q? Where it shows nothing, it does.
@@ -75,17 +73,10 @@ fn vertex_projects(vtx2xyz: &[f32], m: &[f32; 16], v: usize) -> bool
 }
 
 // Has every vertex a projection?
-#[tactic(auto, using(lists::specs::Laws::Every::every_none, lists::specs::Laws::Every::every_next), unfolding(crate::specs::Steps::all_project))]
 pub fn all_project(vtx2xyz: &[f32], m: &[f32; 16]) -> bool
     ensures { result ≡ all_project m.now vtx2xyz.now }
 {
-    let n = vtx2xyz.len() / 3;
-    for v in 0..n {
-        if !vertex_projects(vtx2xyz, m, v) {
-            return false;
-        }
-    }
-    true
+    (0..vtx2xyz.len() / 3).all(|v| vertex_projects(vtx2xyz, m, v))
 }
 
 // Has what a pixel shows every projection? Where it shows nothing, there is none to ask.

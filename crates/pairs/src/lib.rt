@@ -77,33 +77,21 @@ fn pair_answered(view: &View, p: Pixel, axis: Axis) -> bool
 }
 
 // Question 8 of the pairs whose first pixels lie in row y.
-#[tactic(auto, using(lists::specs::Laws::Every::every_none, lists::specs::Laws::Every::every_next), unfolding(crate::specs::Steps::row_passes))]
 fn row_answered(view: &View, axis: Axis, y: usize) -> bool
     requires columns { axis.right ≤ view.now.size.w }
     requires row { y + axis.down < view.now.size.h }
     ensures { result ≡ row_passes (answered (seen_of view.now)) (axis_of axis) view.now.size.w y }
 {
-    for x in 0..view.size.w - axis.right {
-        if !pair_answered(view, Pixel { x, y }, axis) {
-            return false;
-        }
-    }
-    true
+    (0..view.size.w - axis.right).all(|x| pair_answered(view, Pixel { x, y }, axis))
 }
 
 // Question 8 of an axis, row by row.
-#[tactic(auto, using(lists::specs::Laws::Every::every_none, lists::specs::Laws::Every::every_next))]
 fn all_answered(view: &View, axis: Axis) -> bool
     requires columns { axis.right ≤ view.now.size.w }
     requires rows { axis.down ≤ view.now.size.h }
     ensures { result ≡ all_answered (axis_of axis) view.now.size.h (seen_of view.now) }
 {
-    for y in 0..view.size.h - axis.down {
-        if !row_answered(view, axis, y) {
-            return false;
-        }
-    }
-    true
+    (0..view.size.h - axis.down).all(|y| row_answered(view, axis, y))
 }
 
 // Question 8 of both axes. It is answered yes where every vertex has a projection, which is quickly seen.

@@ -95,35 +95,23 @@ fn pair_ok(pairs: &AxisPairs, p: Pixel) -> bool
 }
 
 // Question 9 of the pairs whose first pixels lie in row y.
-#[tactic(auto, using(lists::specs::Laws::Every::every_none, lists::specs::Laws::Every::every_next), unfolding(pairs::specs::Steps::row_passes))]
 fn row_ok(pairs: &AxisPairs, y: usize) -> bool
     requires columns { pairs.now.axis.right ≤ pairs.now.view.size.w }
     requires in_column { y + pairs.now.axis.down < pairs.now.view.size.h }
     requires answered { all_answered (axis_of pairs.now.axis) pairs.now.view.size.h (seen_of pairs.now.view) ≡ true }
     ensures { result ≡ row_passes (unwraps (axis_of pairs.now.axis) (seen_of pairs.now.view)) (axis_of pairs.now.axis) pairs.now.view.size.w y }
 {
-    for x in 0..pairs.view.size.w - pairs.axis.right {
-        if !pair_ok(pairs, Pixel { x, y }) {
-            return false;
-        }
-    }
-    true
+    (0..pairs.view.size.w - pairs.axis.right).all(|x| pair_ok(pairs, Pixel { x, y }))
 }
 
 // Question 9 of an axis, row by row.
-#[tactic(auto, using(lists::specs::Laws::Every::every_none, lists::specs::Laws::Every::every_next))]
 fn all_ok(pairs: &AxisPairs) -> bool
     requires columns { pairs.now.axis.right ≤ pairs.now.view.size.w }
     requires rows { pairs.now.axis.down ≤ pairs.now.view.size.h }
     requires answered { all_answered (axis_of pairs.now.axis) pairs.now.view.size.h (seen_of pairs.now.view) ≡ true }
     ensures { result ≡ all_unwraps (axis_of pairs.now.axis) pairs.now.view.size.h (seen_of pairs.now.view) }
 {
-    for y in 0..pairs.view.size.h - pairs.axis.down {
-        if !row_ok(pairs, y) {
-            return false;
-        }
-    }
-    true
+    (0..pairs.view.size.h - pairs.axis.down).all(|y| row_ok(pairs, y))
 }
 
 // Question 9 of both axes, once question 8 is answered yes.

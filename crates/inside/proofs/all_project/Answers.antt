@@ -1,8 +1,9 @@
-use Rattle.std.proofs.Common.{sym}
-use Rattle.lists.specs.Laws.Every.{every-not}
+use Rattle.std.proofs.Common.{rules, refl}
+use Rattle.std.proofs.lemmas.Iterator.Search.{all_from_yields_List}
+use Rattle.lists.proofs.Ranges.{span_given}
 use Rattle.inside.specs.Steps.{all_project}
 use Rattle.inside.proofs.all_project.Goals as goal
 
-pub returns-then-not-vertex_projects : goal.returns-then-not-vertex_projects
+pub returns : goal.returns
 unfolding all_project
-returns-then-not-vertex_projects c = sym (every-not _ _ c.loop-v.v c.loop-v-test.true (cc))
+returns c = all_from_yields_List _ _ _ _ c.all.ensures.ran (span_given _ refl) (λ x b q k. search rules)

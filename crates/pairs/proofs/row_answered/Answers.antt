@@ -1,8 +1,9 @@
-use Rattle.std.proofs.Common.{sym}
-use Rattle.lists.specs.Laws.Every.{every-not}
+use Rattle.std.proofs.Common.{rules, refl}
+use Rattle.std.proofs.lemmas.Iterator.Search.{all_from_yields_List}
+use Rattle.lists.proofs.Ranges.{span_given}
 use Rattle.pairs.specs.Steps.{row_passes}
 use Rattle.pairs.proofs.row_answered.Goals as goal
 
-pub returns-then-not-pair_answered : goal.returns-then-not-pair_answered
+pub returns : goal.returns
 unfolding row_passes
-returns-then-not-pair_answered c = sym (every-not _ _ c.loop-x.x c.loop-x-test.true (cc))
+returns c = all_from_yields_List _ _ _ _ c.all.ensures.ran (span_given _ refl) (λ x b q k. search rules)
