@@ -9,7 +9,7 @@ use lib.Ieee.{Float}
 use Rattle.questions.specs.Questions.{outcome, sizes, slices, numbers, all_below, most_count}
 use Rattle.std.specs.Prelude.{Ok, Err}
 use Rattle.questions.specs.declared.Refusal.{Refusal}
-use Rattle.questions.specs.Answer.{code_of}
+use Rattle.questions.specs.Answer.{number_of}
 use Rattle.questions.proofs.Laws.Refusals.{refused}
 use Rattle.questions.specs.Laws.{call_done, Sized, sized, sliced, accepted}
 use Rattle.cells.specs.Layer.{Layer}
@@ -40,11 +40,11 @@ module _ (l : Layer) (tri : List ℕ) (xyz : List Float) (w h first : ℕ) where
       let q3' = sliced (length tri) (length xyz) q3.0 in
       (sized 1 w h q1.0, (exact-spans w h l q4.0, (sound_mesh q3'.0 q3'.1 q6.0, fits first (length tri / 3) q5.0)))
 
-  pub draw_refused : (m : List Float) (facing : ℕ) (r : Refusal) → code_of (Err r) ≡ draw_code l tri xyz w h first → outcome (code_of (Err r)) l ≡ draws l tri xyz w h m first facing
+  pub draw_refused : (m : List Float) (facing : ℕ) (r : Refusal) → number_of r ≡ draw_code l tri xyz w h first → outcome (number_of r) l ≡ draws l tri xyz w h m first facing
   unfolding draws
   draw_refused m facing r e = refused r _ e
 
-  pub draw_done : (m : List Float) (facing : ℕ) {named : Facing} (new : Layer) → code_of (Ok tt) ≡ draw_code l tri xyz w h first → named ≡ facing_of facing → new ≡ drawn (scene m xyz w h named) (faces_of tri) first l
+  pub draw_done : (m : List Float) (facing : ℕ) {named : Facing} (new : Layer) → 0 ≡ draw_code l tri xyz w h first → named ≡ facing_of facing → new ≡ drawn (scene m xyz w h named) (faces_of tri) first l
       → outcome 0 new ≡ draws l tri xyz w h m first facing
   unfolding draws
   draw_done m facing new e f made = call_done l e refl (made ∙ ap (λ (n : Facing). drawn (scene m xyz w h n) (faces_of tri) first l) f)

@@ -7,7 +7,7 @@ ghost use Rattle.questions.specs.Answer.{code_of};
 ghost use Rattle.meshes.specs.View.{view_of};
 ghost use Rattle.pairs.specs.Pairs.{edge_view};
 ghost use Rattle.pairs.specs.Gradient.{pixel_values};
-ghost use Rattle.pairs.specs.Answer.{seen_of, refusal_of, Lent};
+ghost use Rattle.pairs.specs.Answer.{seen_of, Lent};
 ghost use Rattle.edge_bwd.specs.Calls.{of_pairs, bwd_code, edge_bwd};
 
 use meshes::{Mesh, View};
@@ -42,7 +42,7 @@ fn ask_bwd<'a>(
     pix2val: &[f32],
     dldw_pix2val: &[f32],
 ) -> Result<View<'a>, Refusal>
-    ensures code { refusal_of result ≡ bwd_code tri2vtx.now pix2tri.now img_h
+    ensures code { code_of result ≡ bwd_code tri2vtx.now pix2tri.now img_h
         (edge_view (view_of tri2vtx.now pix2tri.now) transform_world2pix.now vtx2xyz.now img_w)
         (pixel_values pix2val.now dldw_pix2val.now num_vdim) dldw_vtx2xyz.now }
     ensures lent { IfOk result (λ v. Lent v img_h (edge_view (view_of tri2vtx.now pix2tri.now) transform_world2pix.now vtx2xyz.now img_w)) }

@@ -7,7 +7,7 @@ ghost use Rattle.questions.specs.Answer.{code_of};
 ghost use Rattle.meshes.specs.View.{view_of};
 ghost use Rattle.pairs.specs.Pairs.{edge_view};
 ghost use Rattle.pairs.specs.Gradient.{pixel_values};
-ghost use Rattle.pairs.specs.Answer.{axis_of, refusal_of, Lent};
+ghost use Rattle.pairs.specs.Answer.{axis_of, Lent};
 ghost use Rattle.edge_types.specs.Axis.{axis_buffers};
 ghost use Rattle.edges.specs.Calls.{edge_buffers, exact_axis, edge_code, edge_typing};
 
@@ -45,7 +45,7 @@ fn ask_edges<'a>(
     vedge2type: &[u8],
     vedge2dldr: &[f32],
 ) -> Result<View<'a>, Refusal>
-    ensures code { refusal_of result ≡ edge_code tri2vtx.now pix2tri.now img_h
+    ensures code { code_of result ≡ edge_code tri2vtx.now pix2tri.now img_h
         (edge_view (view_of tri2vtx.now pix2tri.now) transform_world2pix.now vtx2xyz.now img_w)
         (pixel_values pix2val.now dldw_pix2val.now num_vdim)
         (edge_buffers (axis_buffers hedge2type.now hedge2dldr.now) (axis_buffers vedge2type.now vedge2dldr.now)) }

@@ -6,7 +6,7 @@ use lib.ListN.{length}
 use lib.Ieee.{Float}
 use Rattle.std.specs.Prelude.{Ok, Err}
 use Rattle.questions.specs.declared.Refusal.{Refusal}
-use Rattle.questions.specs.Answer.{code_of}
+use Rattle.questions.specs.Answer.{number_of}
 use Rattle.questions.specs.Questions.{sizes, slices, all_below, most_count, outcome}
 use Rattle.questions.specs.Laws.{Sized, sized, sliced, accepted, call_done}
 use Rattle.questions.proofs.Laws.Refusals.{refused}
@@ -28,10 +28,10 @@ module _ (tri : List ℕ) (xyz : List Float) (w h : ℕ) where
       (sized 1 w h q1.0, sound_mesh q3'.0 q3'.1 q6.0, q3'.0.most)
 
   module _ (m : List Float) where
-    pub load_refused : (r : Refusal) → code_of (Err r) ≡ load_code tri xyz w h → outcome (code_of (Err r)) (load 0 0) ≡ loading tri xyz w h m
+    pub load_refused : (r : Refusal) → number_of r ≡ load_code tri xyz w h → outcome (number_of r) (load 0 0) ≡ loading tri xyz w h m
     unfolding loading
     load_refused r e = refused r _ e
 
-    pub load_done : (l : Load) → code_of (Ok tt) ≡ load_code tri xyz w h → l ≡ load_of (scene m xyz w h All) (faces_of tri) → outcome 0 l ≡ loading tri xyz w h m
+    pub load_done : (l : Load) → 0 ≡ load_code tri xyz w h → l ≡ load_of (scene m xyz w h All) (faces_of tri) → outcome 0 l ≡ loading tri xyz w h m
     unfolding loading
     load_done l e counted = call_done (load 0 0) e refl counted

@@ -1,7 +1,5 @@
 -- What the code's structs stand for.
-use Rattle.std.specs.Prelude.{ℕ, ◌≡◌, Result, Ok, Err}
-use Rattle.questions.specs.declared.Refusal.{Refusal}
-use Rattle.questions.specs.Answer.{number_of}
+use Rattle.std.specs.Prelude.{ℕ, ◌≡◌}
 use Rattle.meshes.specs.View.{view_of}
 use Rattle.meshes.specs.declared.View.{View}
 use Rattle.pixels.specs.Edge as Edge
@@ -18,11 +16,6 @@ edge_of a p = edge_from (axis_of a) p.x p.y
 -- what an edge pass sees
 abbrev pub seen_of : View → EdgeView
 seen_of v = edge_view (view_of v.mesh.tri2vtx.now v.pix2tri.now) v.m.now v.mesh.vtx2xyz.now v.size.w
-
--- the code of a view that a call is of, or of its refusal
-abbrev pub refusal_of : Result View Refusal → ℕ
-refusal_of (Ok v) = 0
-refusal_of (Err r) = number_of r
 
 -- what an accepted call's view is of: an image h high, and what a pass sees of it
 pub record Lent (v : View) (h : ℕ) (s : EdgeView) : Type 0 where

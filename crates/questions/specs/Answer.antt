@@ -16,6 +16,6 @@ number_of Projections = 8
 number_of Weights = 9
 
 -- "Accepted is 0. The first no gives its number."
-abbrev pub code_of : Result Unit Refusal → ℕ
+abbrev pub code_of : {A : Type 0} → Result A Refusal → ℕ
 code_of (Ok _) = 0
 code_of (Err r) = number_of r

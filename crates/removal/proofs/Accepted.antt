@@ -7,7 +7,7 @@ use lib.ListN.{length}
 use lib.Ieee.{Float}
 use Rattle.std.specs.Prelude.{Ok, Err}
 use Rattle.questions.specs.declared.Refusal.{Refusal}
-use Rattle.questions.specs.Answer.{code_of}
+use Rattle.questions.specs.Answer.{number_of}
 use Rattle.questions.proofs.Laws.Refusals.{never_accepted}
 use Rattle.questions.specs.Questions.{outcome, most_count}
 use Rattle.questions.specs.Laws.{Sized, sized, grouped, call_refused, call_done}
@@ -29,7 +29,7 @@ use Rattle.removal_rules.specs.Matched.{Matched}
 use Rattle.removal_rules.proofs.Laws.Pixels.{keep-empty, drawings_match}
 
 module _ (tri : List ℕ) (xyz : List Float) (w h : ℕ) (removed : List ℕ) (full short : Layer) where
-  pub refused : (m : List Float) (r : Refusal) → code_of (Err r) ≡ removal_code tri xyz w h removed full short → answered (Err r) full short ≡ previewing tri xyz w h m removed full short
+  pub refused : (m : List Float) (r : Refusal) → number_of r ≡ removal_code tri xyz w h removed full short → answered (Err r) full short ≡ previewing tri xyz w h m removed full short
   unfolding previewing
   refused m r e = call_refused _ e (never_accepted r)
 
@@ -70,7 +70,7 @@ module _ (tri : List ℕ) (xyz : List Float) (w h : ℕ) (removed : List ℕ) (f
         pub matched : Matched (kept_by removed) full'.pix2tri short'.pix2tri (length full'.pix2tri)
         matched = ready.1
 
-        pub done : {counts : rule.Preview} → code_of (Ok tt) ≡ removal_code tri xyz w h removed full short
+        pub done : {counts : rule.Preview} → 0 ≡ removal_code tri xyz w h removed full short
             → counts ≡ counted (kept_by removed) full'.pix2tri short'.pix2tri (length full'.pix2tri)
             → outcome 0 (previewed counts full' short') ≡ previewing tri xyz w h m removed full short
         unfolding previewing compared

@@ -4,7 +4,7 @@ use Rattle.std.specs.Float.{nan}
 use Rattle.std.proofs.Math.Option.{Option}
 use Rattle.std.proofs.Common.{sym, ◌∙◌, ap, ap₂, zero-add, mul_comm, add-mul, mul-le-mul_right, arith}
 use Rattle.questions.specs.declared.Refusal.{Refusal}
-use Rattle.questions.specs.Answer.{code_of}
+use Rattle.questions.specs.Answer.{number_of}
 use Rattle.questions.specs.Questions.{outcome}
 use Rattle.questions.specs.Laws.{call_done}
 use Rattle.questions.proofs.Laws.Refusals.{refused}
@@ -81,7 +81,7 @@ module _ (value : ℕ → Float → Float) (w h c iy : ℕ) (old cur : List Floa
       ∙ filled_all value (w * h * c) old whole
 
 module _ (g : Image) (s : Vertices) (tri map : List ℕ) (old : List Float) where
-  pub not_done : (r : Refusal) → code_of (Err r) ≡ interpolate_code g s tri map old → outcome (code_of (Err r)) old ≡ interpolating g s tri map old
+  pub not_done : (r : Refusal) → number_of r ≡ interpolate_code g s tri map old → outcome (number_of r) old ≡ interpolating g s tri map old
   unfolding interpolating
   not_done r e = refused r _ e
 

@@ -3,7 +3,7 @@ use Rattle.std.specs.Prelude.{ℕ, ◌*◌, ◌≡◌, refl, Bool, true, ◌&&�
 use Rattle.std.proofs.Common.{sym, ◌∙◌, ap, ap₂}
 use Rattle.lists.specs.Laws.Tests.{both}
 use Rattle.questions.specs.declared.Refusal.{Refusal}
-use Rattle.questions.specs.Answer.{code_of}
+use Rattle.questions.specs.Answer.{number_of}
 use Rattle.questions.specs.Questions.{exact, outcome}
 use Rattle.questions.specs.Laws.{exactly, call_done}
 use Rattle.questions.proofs.Laws.Refusals.{refused}
@@ -20,7 +20,7 @@ use Rattle.values_bwd.specs.Bwd.{interpolating_bwd}
 use Rattle.values_bwd.specs.Laws.{bwd_code_lem}
 
 module _ (g : Image) (s : Vertices) (tri map : List ℕ) (dldw : List Float) (old : Sums) {four : Bool} (f : four ≡ exact (length s.xyz) (length old.xyz) && exact (length s.val) (length old.val)) where
-  pub not_done : (r : Refusal) → code_of (Err r) ≡ pass_code g s tri map (length dldw) four → outcome (code_of (Err r)) old ≡ interpolating_bwd g s tri map dldw old
+  pub not_done : (r : Refusal) → number_of r ≡ pass_code g s tri map (length dldw) four → outcome (number_of r) old ≡ interpolating_bwd g s tri map dldw old
   unfolding interpolating_bwd
   not_done r e = refused r _ (bwd_code_lem g s tri map dldw old f e)
 

@@ -1,7 +1,5 @@
 -- What the code's structs stand for.
-use Rattle.std.specs.Prelude.{ℕ, ◌*◌, ◌≡◌, Result, Ok, Err}
-use Rattle.questions.specs.declared.Refusal.{Refusal}
-use Rattle.questions.specs.Answer.{number_of}
+use Rattle.std.specs.Prelude.{ℕ, ◌*◌, ◌≡◌}
 use Rattle.meshes.specs.View.{View}
 use Rattle.pixel_rays.specs.Rays.{Image}
 use Rattle.pixel_rays.specs.Answer.{image_of, shown}
@@ -11,11 +9,6 @@ use Rattle.vertex_values.specs.Pass.{Vertices, vertices}
 
 abbrev pub vertices_of : codeV.Vertices → Vertices
 vertices_of s = vertices s.vtx2xyz.now s.num_vdim s.vtx2val.now
-
--- the code of a pass, or of its refusal
-abbrev pub refusal_of : Result code.Pass Refusal → ℕ
-refusal_of (Ok p) = 0
-refusal_of (Err r) = number_of r
 
 -- what an accepted pass is of: an image, vertices and a view, and a buffer of n numbers for its pixels
 pub record Lent (p : code.Pass) (g : Image) (s : Vertices) (v : View) (n : ℕ) : Type 0 where

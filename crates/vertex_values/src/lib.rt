@@ -3,6 +3,7 @@
 
 ghost use Rattle.std.specs.Prelude.{◌≡◌, ◌&&◌, ◌*◌, ◌/◌, ◌<◌, ◌≤◌, true, length, IfOk};
 ghost use Rattle.questions.specs.Questions.{most_count};
+ghost use Rattle.questions.specs.Answer.{code_of};
 ghost use Rattle.questions.specs.Laws.{Channels};
 ghost use Rattle.meshes.specs.View.{view_of};
 ghost use Rattle.pixel_rays.specs.Rays.{image};
@@ -65,7 +66,7 @@ fn exact_ok(
 }
 
 impl<'a> Pass<'a> {
-    ghost use Rattle.vertex_values.specs.Answer.{refusal_of, Lent};
+    ghost use Rattle.vertex_values.specs.Answer.{Lent};
 
     // The questions of a pass with a buffer of `pixels` numbers for its pixels; `others`: have the buffers that it alone is lent the exact length?
     #[tactic(auto, unfolding(questions::specs::Questions::first_no, crate::specs::Questions::pass_code))]
@@ -81,7 +82,7 @@ impl<'a> Pass<'a> {
         pixels: usize,
         others: bool,
     ) -> Result<Pass<'a>, Refusal>
-        ensures code { refusal_of result ≡ pass_code (image w h m.now) (vertices vtx2xyz.now num_vdim vtx2val.now) tri2vtx.now pix2tri.now pixels others }
+        ensures code { code_of result ≡ pass_code (image w h m.now) (vertices vtx2xyz.now num_vdim vtx2val.now) tri2vtx.now pix2tri.now pixels others }
         ensures lent { IfOk result (λ p. Lent p (image w h m.now) (vertices vtx2xyz.now num_vdim vtx2val.now) (view_of tri2vtx.now pix2tri.now) pixels) }
         ensures exact { IfOk result (λ p. others ≡ true) }
     {

@@ -25,5 +25,5 @@ never_accepted Projections e = omega (arith, e)
 never_accepted Weights e = omega (arith, e)
 
 -- a refused call leaves what it was lent
-pub refused : {A : Type 0} {k : ℕ} {before : A} (r : Refusal) (after : A) → code_of (Err r) ≡ k → outcome (code_of (Err r)) before ≡ answer k before after
+pub refused : {A : Type 0} {k : ℕ} {before : A} (r : Refusal) (after : A) → number_of r ≡ k → outcome (number_of r) before ≡ answer k before after
 refused r after e = call_refused after e (never_accepted r)
