@@ -1,12 +1,12 @@
 -- Laws of the pairs.
-use Rattle.std.specs.Prelude.{ℕ, zero, suc, ◌+◌, ◌-◌, ◌*◌, ◌/◌, ◌<◌, ◌≡◌, Bool, true, ◌&&◌, List, ltb, Float, length}
+use Rattle.std.specs.Prelude.{ℕ, ◌+◌, ◌-◌, ◌*◌, ◌/◌, ◌<◌, ◌≡◌, Bool, true, List, ltb, Float, length}
 use Rattle.std.proofs.Math.Bool.{or-true}
-use Rattle.std.proofs.Common.{sym, ◌∙◌, ap, ap₂, zero-add, zero-mul, arith, ne_eqb}
-use Rattle.lists.specs.Lists.{tabulate, span, every}
+use Rattle.std.proofs.Common.{sym, ◌∙◌, ap, ap₂, zero-add, arith, ne_eqb}
+use Rattle.lists.specs.Lists.{span, every}
 use Rattle.questions.specs.Questions.{exact, names_face, empty}
 use Rattle.questions.specs.Laws.{Channels, exactly}
 use Rattle.lists.specs.Laws.Tests.{both}
-use Rattle.lists.specs.Laws.Every.{every_any, every_one, every_same, every-add, all_pass}
+use Rattle.lists.specs.Laws.Every.{every_any, every_same, all_pass, every_rows}
 use Rattle.meshes.specs.View.{entry_at, named, view_of}
 use Rattle.meshes.specs.Sound.{SoundMap}
 use Rattle.pixels.specs.Edge.{Axis, Edge, edge_count, edge_from, edge_at, per_row, rows}
@@ -35,27 +35,14 @@ unfolding edge_at
 edge_in_row a w x y h = ap₂ (edge_from a) (column-at (per_row a w) y x h) (row-at (per_row a w) y x h)
 
 module _ (test : Edge → Bool) (a : Axis) (w : ℕ) where
-  row-passes : (y : ℕ) → every (λ i. test (edge_at a w i)) (span (0 + y * per_row a w) (per_row a w)) ≡ row_passes test a w y
+  row-passes : (y : ℕ) → every (λ i. test (edge_at a w i)) (span (y * per_row a w) (per_row a w)) ≡ row_passes test a w y
   unfolding row_passes
   row-passes y =
-      every_same (λ i. test (edge_at a w i)) (λ x. test (edge_from a x y)) (0 + y * per_row a w) 0 (per_row a w)
-      (λ x h.
-      let k : 0 + y * per_row a w + x ≡ y * per_row a w + x = omega arith in
-      let j : x ≡ 0 + x = omega arith in
-      ap (λ (i : ℕ). test (edge_at a w i)) k ∙ ap test (edge_in_row a w x y h) ∙ ap (λ (i : ℕ). test (edge_from a i y)) j)
+      every_same (λ i. test (edge_at a w i)) (λ x. test (edge_from a x y)) (y * per_row a w) 0 (per_row a w)
+      (λ x h. ap test (edge_in_row a w x y h) ∙ ap (λ (i : ℕ). test (edge_from a i y)) (sym (zero-add x)))
 
   pub by_rows : (m : ℕ) → every (λ i. test (edge_at a w i)) (span 0 (m * per_row a w)) ≡ every (row_passes test a w) (span 0 m)
-  unfolding tabulate
-  by_rows zero = ap (λ (n : ℕ). every (λ i. test (edge_at a w i)) (span 0 n)) (zero-mul (per_row a w))
-  by_rows (suc m) =
-      let n = per_row a w in
-      let e : suc m * n ≡ m * n + n = omega arith in
-      let f : suc m ≡ m + 1 = omega arith in
-      ap (λ (k : ℕ). every (λ i. test (edge_at a w i)) (span 0 k)) e
-      ∙ every-add (λ i. test (edge_at a w i)) 0 (m * n) n
-      ∙ ap₂ ◌&&◌ (by_rows m) (row-passes m ∙ sym (every_one (row_passes test a w) m) ∙ ap (λ (k : ℕ). every (row_passes test a w) (span k 1)) (sym (zero-add m)))
-      ∙ sym (every-add (row_passes test a w) 0 m 1)
-      ∙ ap (λ (k : ℕ). every (row_passes test a w) (span 0 k)) (sym f)
+  by_rows m = sym (every_rows (λ i. test (edge_at a w i)) (per_row a w) m) ∙ every_same _ (row_passes test a w) 0 0 m (λ y h. row-passes (0 + y))
 
 pub answered_by_rows : (a : Axis) (h : ℕ) (s : EdgeView) → all_answered a h s ≡ every (row_passes (answered s) a s.width) (span 0 (rows a h))
 unfolding all_answered

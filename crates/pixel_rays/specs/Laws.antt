@@ -2,10 +2,11 @@
 use Rattle.std.specs.Prelude.{ℕ, ◌+◌, ◌*◌, ◌<◌, ◌≡◌, refl, Bool, true, false, cond, eqb, List, [], ◌∷◌, Float, get_or}
 use Rattle.std.proofs.Math.Option.{Option, none, some}
 use Rattle.lists.specs.Lists.{every, span}
+use Rattle.lists.specs.Laws.Every.{every_rows}
 use Rattle.questions.specs.Questions.{empty}
 use Rattle.rays.specs.Space.{Ray}
 use Rattle.meshes.specs.Mesh.{face_at}
-use Rattle.std.proofs.Common.{sym, arith}
+use Rattle.std.proofs.Common.{sym, ap, ◌∙◌, mul_comm, arith}
 use Rattle.pixels.specs.Laws.{row-at, column-at, number_below}
 use Rattle.rays.specs.Pixel.{pixel_ray, ray_at, column_at, row_at}
 use Rattle.meshes.specs.View.{entry_at, named, view_of}
@@ -45,3 +46,11 @@ module _ (g : Image) (tri tri' map : List ℕ) where
       go : (ps : List ℕ) → every (λ p. answered ((view_of tri map).at p) (ray_of g p)) ps ≡ every (λ p. answered ((view_of tri' map).at p) (ray_of g p)) ps
       go [] = refl
       go (p ∷ ps) = rw (one_pixel p, go ps)
+
+-- question 8 row by row
+pub rays_by_rows : (g : Image) (tri map : List ℕ) → rays_answer g (view_of tri map) ≡ every (λ iy. every (λ p. answered ((view_of [] map).at p) (ray_of g p)) (span (iy * g.w) g.w)) (span 0 g.h)
+unfolding rays_answer
+rays_by_rows g tri map =
+    any_faces g tri [] map
+    ∙ ap (λ (k : ℕ). every (λ p. answered ((view_of [] map).at p) (ray_of g p)) (span 0 k)) (mul_comm g.w g.h)
+    ∙ sym (every_rows (λ p. answered ((view_of [] map).at p) (ray_of g p)) g.w g.h)

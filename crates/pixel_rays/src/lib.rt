@@ -58,12 +58,7 @@ fn row_ok(size: ImageSize, m: &[f32; 16], pix2tri: &[u32], iy: usize) -> bool
     ensures { result ≡ every (λ p. answered ((view_of [] pix2tri.now).at p) (ray_of (image size.w size.h m.now) p)) (span (iy * size.w) size.w) }
 {
     let y = rays::row_at(size.h, iy);
-    for ix in 0..size.w {
-        if !pixel_ok(size, m, pix2tri, Pixel { x: ix, y: iy }, y) {
-            return false;
-        }
-    }
-    true
+    (0..size.w).all(|ix| pixel_ok(size, m, pix2tri, Pixel { x: ix, y: iy }, y))
 }
 
 // Question 8 of a map. It is the same for any faces: it asks which pixels are empty.
@@ -71,10 +66,5 @@ pub fn rays_ok(size: ImageSize, m: &[f32; 16], pix2tri: &[u32]) -> bool
     requires { length pix2tri.now ≡ size.w * size.h }
     ensures { (tri : List ℕ) → result ≡ rays_answer (image size.w size.h m.now) (view_of tri pix2tri.now) }
 {
-    for iy in 0..size.h {
-        if !row_ok(size, m, pix2tri, iy) {
-            return false;
-        }
-    }
-    true
+    (0..size.h).all(|iy| row_ok(size, m, pix2tri, iy))
 }

@@ -53,10 +53,7 @@ impl From<Result<Preview, Refusal>> for RemovalPreview {
 fn is_removed(removed: &[u8], entry: u32) -> bool
     ensures { result ≡ not (kept_by removed.now entry) }
 {
-    match removed.get(entry as usize) {
-        Some(mark) => *mark != 0,
-        None => false,
-    }
+    removed.get(entry as usize).is_some_and(|mark| *mark != 0)
 }
 
 // The pixels of both maps compared, one after the other. One whose old face is kept shows it still, since what was behind that face cannot come before it: so no numbers
