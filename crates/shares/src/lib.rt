@@ -17,7 +17,6 @@ ghost use Rattle.tris.specs.Tri.{Projects};
 ghost use Rattle.share_rules.specs.Shares.{between};
 ghost use Rattle.share_rules.specs.Additions.{additions_of, pair_additions};
 ghost use Rattle.share_rules.specs.Steps.{beside_empty};
-ghost use Rattle.share_rules.specs.Sides.{SidesProject, shares_of};
 ghost use Rattle.shares.specs.Steps.{given_crossing};
 
 use geometry::Vec2;
@@ -97,20 +96,6 @@ fn scatter_between(sums: &mut [f32], pairs: &AxisPairs, first: PixelFace, second
     }
 }
 
-// A pair whose entries are not equal.
-fn scatter_unequal(sums: &mut [f32], pairs: &AxisPairs, sides: Sides, d: f32)
-    requires projects { SidesProject pairs.now.view.m.now pairs.now.view.mesh.vtx2xyz.now sides }
-    requires lent { length sums.old ≡ length pairs.now.view.mesh.vtx2xyz.now }
-    ensures { sums.new ≡ summed sums.old (flat_map (additions_of pairs.now.view.m.now pairs.now.view.mesh.vtx2xyz.now d)
-        (shares_of pairs.now.axis.down pairs.now.view.m.now pairs.now.view.mesh.vtx2xyz.now sides)) }
-{
-    match sides {
-        Sides::Both(first, second) => scatter_between(sums, pairs, first, second, d),
-        Sides::Beside(own, other) => scatter_beside_empty(sums, pairs, own, other, d),
-        Sides::Neither => {}
-    }
-}
-
 // What the pair whose first pixel is p adds.
 #[tactic(auto, using(crate::proofs::Cases::equal_adds))]
 pub fn scatter_pair(sums: &mut [f32], pairs: &AxisPairs, values: &PixelValues, p: Pixel)
@@ -124,5 +109,15 @@ pub fn scatter_pair(sums: &mut [f32], pairs: &AxisPairs, values: &PixelValues, p
     let Some(pair) = pairs.unequal(p) else {
         return;
     };
-    scatter_unequal(sums, pairs, pair.sides, values.dldr(pair.p, pair.q));
+    match pair.sides {
+        Sides::Both(first, second) => {
+            let d = values.dldr(pair.p, pair.q);
+            scatter_between(sums, pairs, first, second, d);
+        }
+        Sides::Beside(own, other) => {
+            let d = values.dldr(pair.p, pair.q);
+            scatter_beside_empty(sums, pairs, own, other, d);
+        }
+        Sides::Neither => {}
+    }
 }
