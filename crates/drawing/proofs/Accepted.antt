@@ -7,7 +7,6 @@ use borrow.Author.Tests.{leb-true}
 use lib.ListN.{length}
 use lib.Ieee.{Float}
 use Rattle.questions.specs.Questions.{outcome, sizes, slices, numbers, all_below, most_count}
-use Rattle.std.specs.Prelude.{Ok, Err}
 use Rattle.questions.specs.declared.Refusal.{Refusal}
 use Rattle.questions.specs.Answer.{number_of}
 use Rattle.questions.proofs.Laws.Refusals.{refused}

@@ -1,5 +1,5 @@
 -- From what the steps of `bwd` promise to the call's whole outcome.
-use Rattle.std.specs.Prelude.{ℕ, ◌≡◌, refl, Ok, Err, List, Float}
+use Rattle.std.specs.Prelude.{ℕ, ◌≡◌, refl, List, Float}
 use Rattle.questions.specs.declared.Refusal.{Refusal}
 use Rattle.questions.specs.Answer.{number_of}
 use Rattle.questions.specs.Questions.{outcome}

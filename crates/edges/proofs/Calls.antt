@@ -1,5 +1,5 @@
 -- From what the steps of `edge_gradient_and_type` promise to the call's whole outcome.
-use Rattle.std.specs.Prelude.{ℕ, ◌≡◌, refl, Ok, Err, List}
+use Rattle.std.specs.Prelude.{ℕ, ◌≡◌, refl, List}
 use Rattle.std.proofs.Common.{ap₂}
 use Rattle.questions.specs.declared.Refusal.{Refusal}
 use Rattle.questions.specs.Answer.{number_of}

@@ -1,5 +1,5 @@
 -- From what the steps of `clear` and `join` promise to the calls' whole outcomes.
-use Rattle.std.specs.Prelude.{ℕ, ◌*◌, ◌≡◌, Ok, Err, refl}
+use Rattle.std.specs.Prelude.{ℕ, ◌*◌, ◌≡◌, refl}
 use Rattle.questions.specs.declared.Refusal.{Refusal}
 use Rattle.questions.specs.Answer.{number_of}
 use Rattle.questions.specs.Questions.{outcome}

@@ -4,7 +4,6 @@ use mathlib.Core.Path.{◌≡◌, refl}
 use mathlib.Core.List.{List, []}
 use lib.ListN.{length}
 use lib.Ieee.{Float}
-use Rattle.std.specs.Prelude.{Ok, Err}
 use Rattle.questions.specs.declared.Refusal.{Refusal}
 use Rattle.questions.specs.Answer.{number_of}
 use Rattle.questions.specs.Questions.{sizes, slices, all_below, most_count, outcome}

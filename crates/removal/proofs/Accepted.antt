@@ -5,7 +5,7 @@ use mathlib.Core.List.{List, []}
 use native.Mathlib.Omega.{arith}
 use lib.ListN.{length}
 use lib.Ieee.{Float}
-use Rattle.std.specs.Prelude.{Ok, Err}
+use Rattle.std.specs.Prelude.{Err}
 use Rattle.questions.specs.declared.Refusal.{Refusal}
 use Rattle.questions.specs.Answer.{number_of}
 use Rattle.questions.proofs.Laws.Refusals.{never_accepted}

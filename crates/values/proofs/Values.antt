@@ -1,5 +1,5 @@
 -- From what the steps of `interpolate` promise to its outcome.
-use Rattle.std.specs.Prelude.{ℕ, ◌+◌, ◌*◌, ◌<◌, ◌≤◌, ◌≡◌, refl, List, ◌++◌, Float, length, get_or, take, drop, Err}
+use Rattle.std.specs.Prelude.{ℕ, ◌+◌, ◌*◌, ◌<◌, ◌≤◌, ◌≡◌, refl, List, ◌++◌, Float, length, get_or, take, drop}
 use Rattle.std.specs.Float.{nan}
 use Rattle.std.proofs.Math.Option.{Option}
 use Rattle.std.proofs.Common.{sym, ◌∙◌, ap, ap₂, zero-add, mul_comm, add-mul, mul-le-mul_right, arith}

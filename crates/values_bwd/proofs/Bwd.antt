@@ -1,5 +1,5 @@
 -- From what the steps of `interpolate_bwd` promise to its outcome.
-use Rattle.std.specs.Prelude.{ℕ, ◌*◌, ◌≡◌, refl, Bool, true, ◌&&◌, List, Float, length, Err}
+use Rattle.std.specs.Prelude.{ℕ, ◌*◌, ◌≡◌, refl, Bool, true, ◌&&◌, List, Float, length}
 use Rattle.std.proofs.Common.{sym, ◌∙◌, ap, ap₂}
 use Rattle.lists.specs.Laws.Tests.{both}
 use Rattle.questions.specs.declared.Refusal.{Refusal}

@@ -3,7 +3,7 @@ use Rattle.std.specs.Prelude.{ℕ, ◌≡◌, refl, Bool, true, false, cond, Ok,
 use Rattle.std.proofs.Common.{arith}
 use Rattle.questions.specs.declared.Refusal.{Refusal}
 use Rattle.questions.specs.declared.Refusal.TheVariants.{Size, Channels, Slices, Lengths, Numbers, Vertices, Faces, Projections, Weights}
-use Rattle.questions.specs.Answer.{number_of, code_of}
+use Rattle.questions.specs.Answer.{number_of}
 use Rattle.questions.specs.Questions.{outcome, answer}
 use Rattle.questions.specs.Laws.{call_refused}
 
