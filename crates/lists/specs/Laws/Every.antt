@@ -1,8 +1,8 @@
 -- A test of every number of a list, or of numbers in a row, as a loop asks it.
-use Rattle.std.specs.Prelude.{ℕ, zero, suc, ◌+◌, ◌*◌, ◌≤◌, ◌<◌, ◌≡◌, Bool, true, false, ◌&&◌, length, drop, get_or}
+use Rattle.std.specs.Prelude.{ℕ, zero, suc, ◌+◌, ◌-◌, ◌*◌, ◌≤◌, ◌<◌, ◌≡◌, Bool, true, false, ◌&&◌, length, drop, get_or}
 use Rattle.std.proofs.Math.Path.{refl, sym, ap, ap₂}
 use Rattle.std.proofs.Common.{◌∙◌, add-zero, zero-add, zero-mul, mul_comm, mul-le-mul_right, not-suc-le-zero, le_of_suc-le-suc, add-one, arith, drop_of_length-le, drop-cons}
-use Rattle.std.proofs.Math.Bool.{and-true, and_assoc}
+use Rattle.std.proofs.Math.Bool.{and-true, and-false, and_assoc}
 use mathlib.Core.List.{List, [], ◌∷◌}
 use Rattle.std.proofs.lemmas.List.Folds.{list_all-append}
 use Rattle.lists.specs.Lists.{tabulate, span, every}
@@ -73,15 +73,56 @@ module _ (t : ℕ → Bool) where
   unfolding tabulate
   every_one p = and-true (t p)
 
+  pub every_none : (a : ℕ) → every t (span a 0) ≡ true
+  unfolding tabulate
+  every_none a = refl
+
   -- n in a row, and m more
   pub every-add : (a n m : ℕ) → every t (span a (n + m)) ≡ every t (span a n) && every t (span (a + n) m)
   every-add a n m = ap (every t) (tabulate-add (λ i. i) a n m) ∙ list_all-append t (span a n) (span (a + n) m)
+
+  -- so far, and the next m
+  pub every_more : (a n m : ℕ) → every t (span a n) ≡ true → every t (span (a + n) m) ≡ true → every t (span a (n + m)) ≡ true
+  every_more a n m p q = every-add a n m ∙ rw (p, q)
+
+  -- one no is a no
+  pub every_stopped : (a n m whole : ℕ) → n + m ≤ whole → every t (span (a + n) m) ≡ false → false ≡ every t (span a whole)
+  every_stopped a n m whole h q =
+      let e : n + (m + (whole - (n + m))) ≡ whole = omega arith in
+      sym (ap (λ (k : ℕ). every t (span a k)) (sym e) ∙ every-add a n (m + (whole - (n + m))) ∙ rw (every-add (a + n) m (whole - (n + m)), q) (and-false (every t (span a n))))
+
+  -- nothing is left
+  pub every_ended : (a n whole : ℕ) → n ≤ whole → whole ≤ n → every t (span a n) ≡ true → true ≡ every t (span a whole)
+  every_ended a n whole l g p = let e : n ≡ whole = omega arith in sym (ap (λ (k : ℕ). every t (span a k)) (sym e) ∙ p)
+
+  -- the same from 0 on, one by one
+  pub every_next : (i : ℕ) → every t (span 0 i) ≡ true → t i ≡ true → every t (span 0 (i + 1)) ≡ true
+  every_next i p q = every_more 0 i 1 p (every_one (0 + i) ∙ ap t (zero-add i) ∙ q)
+
+  pub every-not : (n i : ℕ) → i < n → t i ≡ false → every t (span 0 n) ≡ false
+  every-not n i h e = sym (every_stopped 0 i 1 n (omega arith) (every_one (0 + i) ∙ ap t (zero-add i) ∙ e))
 
   pub in_span : (n : ℕ) → every t (span 0 n) ≡ true → (i : ℕ) → i < n → t i ≡ true
   in_span n e i h = ap t (sym (get_or-tabulate (λ k. k) 0 n i 0 h ∙ zero-add i)) ∙ every-at t (span 0 n) e i (rw (length-tabulate (λ k. k) 0 n) h)
 
   pub all_pass : (n : ℕ) → ((i : ℕ) → t i ≡ true) → every t (span 0 n) ≡ true
   all_pass n h = every_of t 0 (span 0 n) (λ i l. h (get_or (span 0 n) i 0))
+
+  -- the same, row by row of w
+  module _ (w h iy : ℕ) where
+    pub rows_more : every t (span 0 (iy * w)) ≡ true → every t (span (iy * w) w) ≡ true → every t (span 0 ((iy + 1) * w)) ≡ true
+    rows_more p q =
+        let e : iy * w + w ≡ (iy + 1) * w = omega arith in
+        ap (λ (k : ℕ). every t (span 0 k)) (sym e) ∙ every_more 0 (iy * w) w p (ap (λ (k : ℕ). every t (span k w)) (zero-add (iy * w)) ∙ q)
+
+    pub rows_stopped : iy < h → every t (span (iy * w) w) ≡ false → false ≡ every t (span 0 (w * h))
+    rows_stopped l q =
+        every_stopped 0 (iy * w) w (w * h) (row_below w h iy l) (ap (λ (k : ℕ). every t (span k w)) (zero-add (iy * w)) ∙ q)
+
+    pub rows_ended : iy ≤ h → h ≤ iy → every t (span 0 (iy * w)) ≡ true → true ≡ every t (span 0 (w * h))
+    rows_ended l g p =
+        let e : iy ≡ h = omega arith in
+        sym (ap (λ (k : ℕ). every t (span 0 k)) (mul_comm w h ∙ ap (λ (k : ℕ). k * w) (sym e)) ∙ p)
 
 module _ (t : ℕ → Bool) where
   -- numbers from a on, each by its distance from there
