@@ -1,8 +1,8 @@
 -- A test of every number of a list, or of numbers in a row, as a loop asks it.
-use Rattle.std.specs.Prelude.{ℕ, zero, suc, ◌+◌, ◌*◌, ◌≤◌, ◌<◌, ◌≡◌, Bool, true, false, ◌&&◌, length, drop, get_or}
+use Rattle.std.specs.Prelude.{ℕ, zero, suc, ◌+◌, ◌*◌, ◌≤◌, ◌<◌, ◌≡◌, Bool, true, false, ◌&&◌, length, drop, get_or, ◌-◌}
 use Rattle.std.proofs.Math.Path.{refl, sym, ap, ap₂}
 use Rattle.std.proofs.Common.{◌∙◌, add-zero, zero-add, zero-mul, mul_comm, mul-le-mul_right, not-suc-le-zero, le_of_suc-le-suc, add-one, arith, drop_of_length-le, drop-cons}
-use Rattle.std.proofs.Math.Bool.{and-true, and_assoc}
+use Rattle.std.proofs.Math.Bool.{and-true, and_assoc, and-false}
 use mathlib.Core.List.{List, [], ◌∷◌}
 use Rattle.std.proofs.lemmas.List.Folds.{list_all-append}
 use Rattle.lists.specs.Lists.{tabulate, span, every}
@@ -73,9 +73,30 @@ module _ (t : ℕ → Bool) where
   unfolding tabulate
   every_one p = and-true (t p)
 
+  pub every_none : (a : ℕ) → every t (span a 0) ≡ true
+  unfolding tabulate
+  every_none a = refl
+
   -- n in a row, and m more
   pub every-add : (a n m : ℕ) → every t (span a (n + m)) ≡ every t (span a n) && every t (span (a + n) m)
   every-add a n m = ap (every t) (tabulate-add (λ i. i) a n m) ∙ list_all-append t (span a n) (span (a + n) m)
+
+  -- so far, and the next m
+  pub every_more : (a n m : ℕ) → every t (span a n) ≡ true → every t (span (a + n) m) ≡ true → every t (span a (n + m)) ≡ true
+  every_more a n m p q = every-add a n m ∙ rw (p, q)
+
+  -- one no is a no
+  pub every_stopped : (a n m whole : ℕ) → n + m ≤ whole → every t (span (a + n) m) ≡ false → false ≡ every t (span a whole)
+  every_stopped a n m whole h q =
+      let e : n + (m + (whole - (n + m))) ≡ whole = omega arith in
+      sym (ap (λ (k : ℕ). every t (span a k)) (sym e) ∙ every-add a n (m + (whole - (n + m))) ∙ rw (every-add (a + n) m (whole - (n + m)), q) (and-false (every t (span a n))))
+
+  -- the same from 0 on, one by one
+  pub every_next : (i : ℕ) → every t (span 0 i) ≡ true → t i ≡ true → every t (span 0 (i + 1)) ≡ true
+  every_next i p q = every_more 0 i 1 p (every_one (0 + i) ∙ ap t (zero-add i) ∙ q)
+
+  pub every-not : (n i : ℕ) → i < n → t i ≡ false → every t (span 0 n) ≡ false
+  every-not n i h e = sym (every_stopped 0 i 1 n (omega arith) (every_one (0 + i) ∙ ap t (zero-add i) ∙ e))
 
   pub in_span : (n : ℕ) → every t (span 0 n) ≡ true → (i : ℕ) → i < n → t i ≡ true
   in_span n e i h = ap t (sym (get_or-tabulate (λ k. k) 0 n i 0 h ∙ zero-add i)) ∙ every-at t (span 0 n) e i (rw (length-tabulate (λ k. k) 0 n) h)
