@@ -101,7 +101,12 @@ fn row_weighs_or_inner(view: &View, y: usize) -> bool
     ensures { result ≡ true → (x : ℕ) → x < view.now.size.w
         → WeighsOrInner view.now.mesh.tri2vtx.now view.now.pix2tri.now view.now.m.now view.now.mesh.vtx2xyz.now view.now.size.w view.now.size.h x y }
 {
-    (0..view.size.w).all(|x| weighs_or_inner(view, Pixel { x, y }))
+    for x in 0..view.size.w {
+        if !weighs_or_inner(view, Pixel { x, y }) {
+            return false;
+        }
+    }
+    true
 }
 
 // All rows. What a row's pixels share is worked out once for the row.
@@ -110,7 +115,12 @@ fn all_weigh_or_inner(view: &View) -> bool
     ensures { result ≡ true → (y : ℕ) → y < view.now.size.h → (x : ℕ) → x < view.now.size.w
         → WeighsOrInner view.now.mesh.tri2vtx.now view.now.pix2tri.now view.now.m.now view.now.mesh.vtx2xyz.now view.now.size.w view.now.size.h x y }
 {
-    (0..view.size.h).all(|y| row_weighs_or_inner(view, y))
+    for y in 0..view.size.h {
+        if !row_weighs_or_inner(view, y) {
+            return false;
+        }
+    }
+    true
 }
 
 // Are questions 8 and 9 quickly seen to be answered yes?
