@@ -72,11 +72,18 @@ fn vertex_projects(vtx2xyz: &[f32], m: &[f32; 16], v: usize) -> bool
     geometry::project(m, meshes::vertex(vtx2xyz, v)).is_some()
 }
 
-// Has every vertex a projection?
+// Has every vertex a projection? (A loop: the library's `all` reads the matrix anew for each vertex.)
+#[tactic(auto, using(lists::specs::Laws::Every::every_none, lists::specs::Laws::Every::every_next), unfolding(crate::specs::Steps::all_project))]
 pub fn all_project(vtx2xyz: &[f32], m: &[f32; 16]) -> bool
     ensures { result ≡ all_project m.now vtx2xyz.now }
 {
-    (0..vtx2xyz.len() / 3).all(|v| vertex_projects(vtx2xyz, m, v))
+    let n = vtx2xyz.len() / 3;
+    for v in 0..n {
+        if !vertex_projects(vtx2xyz, m, v) {
+            return false;
+        }
+    }
+    true
 }
 
 // Has what a pixel shows every projection? Where it shows nothing, there is none to ask.

@@ -94,14 +94,19 @@ fn weighs_or_inner(view: &View, p: Pixel) -> bool
     shown_weighs(view, shown, pixels::centre_of(p))
 }
 
-// All pixels of row y.
+// All pixels of row y. (A loop, as below: `bwd` took 1.1 of its time with the library's `all`.)
 fn row_weighs_or_inner(view: &View, y: usize) -> bool
     requires projected { all_project view.now.m.now view.now.mesh.vtx2xyz.now ≡ true }
     requires in_column { y < view.now.size.h }
     ensures { result ≡ true → (x : ℕ) → x < view.now.size.w
         → WeighsOrInner view.now.mesh.tri2vtx.now view.now.pix2tri.now view.now.m.now view.now.mesh.vtx2xyz.now view.now.size.w view.now.size.h x y }
 {
-    (0..view.size.w).all(|x| weighs_or_inner(view, Pixel { x, y }))
+    for x in 0..view.size.w {
+        if !weighs_or_inner(view, Pixel { x, y }) {
+            return false;
+        }
+    }
+    true
 }
 
 // All rows. What a row's pixels share is worked out once for the row.
@@ -110,7 +115,12 @@ fn all_weigh_or_inner(view: &View) -> bool
     ensures { result ≡ true → (y : ℕ) → y < view.now.size.h → (x : ℕ) → x < view.now.size.w
         → WeighsOrInner view.now.mesh.tri2vtx.now view.now.pix2tri.now view.now.m.now view.now.mesh.vtx2xyz.now view.now.size.w view.now.size.h x y }
 {
-    (0..view.size.h).all(|y| row_weighs_or_inner(view, y))
+    for y in 0..view.size.h {
+        if !row_weighs_or_inner(view, y) {
+            return false;
+        }
+    }
+    true
 }
 
 // Are questions 8 and 9 quickly seen to be answered yes?

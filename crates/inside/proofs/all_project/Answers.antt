@@ -1,9 +1,8 @@
-use Rattle.std.proofs.Common.{rules, refl}
-use Rattle.std.proofs.lemmas.Iterator.Search.{all_from_yields_List}
-use Rattle.lists.proofs.Ranges.{span_given}
+use Rattle.std.proofs.Common.{sym}
+use Rattle.lists.specs.Laws.Every.{every-not}
 use Rattle.inside.specs.Steps.{all_project}
 use Rattle.inside.proofs.all_project.Goals as goal
 
-pub returns : goal.returns
+pub returns-then-not-vertex_projects : goal.returns-then-not-vertex_projects
 unfolding all_project
-returns c = all_from_yields_List _ _ _ _ c.all.ensures.ran (span_given _ refl) (λ x b q k. search rules)
+returns-then-not-vertex_projects c = sym (every-not _ _ c.loop-v.v c.loop-v-test.true (cc))

@@ -1,6 +1,5 @@
-use Rattle.std.proofs.Common.{rules, refl}
-use Rattle.lists.proofs.Ranges.{each_given}
+use borrow.Author.Count.{below_more}
 use Rattle.pixel_unwraps.proofs.all_weigh_or_inner.Goals as goal
 
-pub returns : goal.returns
-returns c = each_given _ _ _ _ _ c.all.ensures.ran refl (λ y q k. search rules)
+pub loop-y-preserved : goal.loop-y-preserved
+loop-y-preserved c = below_more _ _ c.loop-y.invariant (c.row_weighs_or_inner.ensures c.if-not-row_weighs_or_inner.false)
