@@ -47,14 +47,14 @@ fn upper(a: f32, b: f32) -> f32
 }
 
 #[tactic(auto, unfolding(rules::specs::Scan::least))]
-fn least(a: f32, b: f32, c: f32) -> f32
+pub fn least(a: f32, b: f32, c: f32) -> f32
     ensures { result ≡ rule.least a b c }
 {
     lower(lower(a, b), c)
 }
 
 #[tactic(auto, unfolding(rules::specs::Scan::greatest))]
-fn greatest(a: f32, b: f32, c: f32) -> f32
+pub fn greatest(a: f32, b: f32, c: f32) -> f32
     ensures { result ≡ rule.greatest a b c }
 {
     upper(upper(a, b), c)

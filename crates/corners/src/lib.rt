@@ -19,7 +19,7 @@ pub struct Corner {
 }
 
 #[tactic(auto, unfolding(rules::specs::Piece::scored))]
-fn scored(t11: f32, a: Projected) -> Corner
+pub fn scored(t11: f32, a: Projected) -> Corner
     ensures { corner_of result ≡ rule.scored floats t11 (projected_of a) }
 {
     Corner {

@@ -28,7 +28,7 @@ fn ask_pairs(view: &View) -> Result<(), Refusal>
     ask(unwraps::both_ok(view), Refusal::Weights)
 }
 
-// Questions 1 to 9, and the view that they are asked of.
+// Questions 1 to 9, and the view that they are asked of. (The parameters are the call's.)
 #[tactic(auto, using(pairs::proofs::Asked::asked), unfolding(questions::specs::Questions::first_no, questions::specs::Questions::exact, crate::specs::Calls::bwd_code))]
 fn ask_bwd<'a>(
     tri2vtx: &'a [u32],

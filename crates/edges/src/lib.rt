@@ -28,7 +28,7 @@ fn axis_ok(size: ImageSize, axis: Axis, types: &[u8], dldr: &[f32]) -> bool
     types.len() == n && dldr.len() == n
 }
 
-// Questions 1 to 8, and the view that they are asked of.
+// Questions 1 to 8, and the view that they are asked of. (The parameters are the call's.)
 #[tactic(auto, using(pairs::proofs::Asked::asked), unfolding(questions::specs::Questions::first_no, crate::specs::Calls::edge_code))]
 fn ask_edges<'a>(
     tri2vtx: &'a [u32],

@@ -52,7 +52,8 @@ fn add_shares(dxyz: &mut [f32], f: Face, to: Triangle<Vec3>)
     add_three(dxyz, 3, f, 2, p0.z, p1.z, p2.z);
 }
 
-// The incoming gradients by the corners' weights, channel by channel of c; they begin at `at`.
+// The incoming gradients by the corners' weights, channel by channel of c; they begin at `at`. (It asks for each corner's run: of no channel, that a corner is
+// among the runs says nothing.)
 #[tactic(auto, using(meshes::specs::Laws::turns_none, meshes::specs::Laws::turns_more, meshes::specs::Laws::turns_ended), unfolding(crate::specs::Additions::to_val))]
 fn add_values(dval: &mut [f32], c: usize, f: Face, bc: Weights, dldw: &[f32], at: usize)
     requires run0 { f.v0 * c + c ≤ length dval.old }

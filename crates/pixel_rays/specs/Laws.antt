@@ -1,12 +1,12 @@
 -- A pixel as the loops meet it: its entry, and its ray.
-use Rattle.std.specs.Prelude.{ℕ, ◌+◌, ◌*◌, ◌<◌, ◌≡◌, refl, Bool, true, false, cond, eqb, List, [], ◌∷◌, Float, get_or}
+use Rattle.std.specs.Prelude.{ℕ, ◌+◌, ◌*◌, ◌<◌, ◌≡◌, refl, Bool, true, false, cond, eqb, List, [], ◌∷◌, Float, get_or, length}
 use Rattle.std.proofs.Math.Option.{Option, none, some}
 use Rattle.lists.specs.Lists.{every, span}
 use Rattle.lists.specs.Laws.Every.{every_rows}
 use Rattle.questions.specs.Questions.{empty}
 use Rattle.rays.specs.Space.{Ray}
-use Rattle.meshes.specs.Mesh.{face_at}
-use Rattle.std.proofs.Common.{sym, ap, ◌∙◌, mul_comm, arith}
+use Rattle.meshes.specs.Mesh.{Face, face_at}
+use Rattle.std.proofs.Common.{sym, ap, ◌∙◌, mul_comm, ap₂, arith}
 use Rattle.pixels.specs.Laws.{row-at, column-at, number_below}
 use Rattle.rays.specs.Pixel.{pixel_ray, ray_at, column_at, row_at}
 use Rattle.meshes.specs.View.{entry_at, named, view_of}
@@ -27,6 +27,13 @@ ray_seen w h m iy ix l = rw (row-at w iy ix l, column-at w iy ix l)
 -- the same, through a point that is its centre
 pub ray_through : (w h : ℕ) (m : List Float) (iy ix : ℕ) {x y : Float} → ix < w → x ≡ column_at w ix → y ≡ row_at h iy → ray_at m x y ≡ ray_of (image w h m) (iy * w + ix)
 ray_through w h m iy ix l ex ey = rw (ex, ey) (sym (ray_seen w h m iy ix l))
+
+-- what F says of the entry and the ray that a loop finds there, it says of the face and the ray of that pixel
+pub pixel-seen : (w h : ℕ) (m : List Float) (tri map : List ℕ) (iy ix : ℕ) {x y : Float} {A : Type 0} (F : Option Face → Option (Ray Float) → A) → ix < w
+    → iy * w + ix < length map → x ≡ column_at w ix → y ≡ row_at h iy
+    → F (named tri (get_or map (iy * w + ix) 0)) (ray_at m x y) ≡ F ((view_of tri map).at (iy * w + ix)) (ray_of (image w h m) (iy * w + ix))
+pixel-seen w h m tri map iy ix F inside below ex ey =
+    ap₂ (λ (entry : ℕ). F (named tri entry)) (entry_read map (iy * w + ix) below) (ray_through w h m iy ix inside ex ey)
 
 -- of a map question 8 asks which pixels are empty, and nothing of its faces
 module _ (g : Image) (tri tri' map : List ℕ) where

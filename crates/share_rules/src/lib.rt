@@ -16,7 +16,7 @@ use geometry::Vec2;
 use meshes::{Face, View};
 use pixels::{Axis, Pixel};
 
-// The pairs of an axis.
+// The pairs of an axis. Question 8 is asked of the pair, or of the axis, where a step needs it.
 #[derive(Clone, Copy)]
 pub struct AxisPairs<'a> {
     pub view: View<'a>,
@@ -49,7 +49,7 @@ pub struct Unequal {
 impl Sides {
     // Of what the pixels with the centres q0 and q1 show.
     #[tactic(auto, using(crate::specs::Laws::both_empty, crate::specs::Laws::after_empty, crate::specs::Laws::before_empty))]
-    fn new(first: Option<Face>, second: Option<Face>, q0: Vec2, q1: Vec2) -> Sides
+    pub fn new(first: Option<Face>, second: Option<Face>, q0: Vec2, q1: Vec2) -> Sides
         ensures projects { (m xyz : List Float) → IfSome first (λ f. Projects m xyz (face_of f)) → IfSome second (λ f. Projects m xyz (face_of f))
             → SidesProject m xyz result }
         ensures shares { (axis : ℕ) (m xyz : List Float)

@@ -1,4 +1,5 @@
-// Demand 3 met by the calls themselves: a mesh cut in two runs, each cleared and drawn in a layer of its own, then joined. Not a public call.
+// Demand 3 met by the calls themselves: a mesh cut in two runs, each cleared and drawn in a layer of its own, then joined. Not a public call: it takes what it hands
+// to the calls, as they take it.
 #![tactic(auto)]
 
 ghost use Rattle.std.specs.Prelude.{◌≡◌, ◌*◌, ◌/◌, ◌≤◌, length};

@@ -19,7 +19,7 @@ ghost use Rattle.unwraps.specs.Unwraps.{weighable_all, unwraps, all_unwraps, bot
 ghost use Rattle.unwraps.specs.Steps.{crossing_answered};
 
 use geometry::Vec2;
-use meshes::View;
+use meshes::{Mesh, View};
 use pixels::{Axis, Pixel};
 use share_rules::{AxisPairs, PixelFace, Sides};
 use tris::Tri;
@@ -40,43 +40,43 @@ fn crossing_ok(axis: Axis, t0: Tri, t1: Tri, q0: Vec2, q1: Vec2) -> bool
 }
 
 // Question 9 of a face beside an empty pixel, whose centre is `other`.
-fn beside_empty_ok(pairs: &AxisPairs, own: PixelFace, other: Vec2) -> bool
-    requires { Projects pairs.now.view.m.now pairs.now.view.mesh.vtx2xyz.now (face_of own.face) }
-    ensures { result ≡ (contains all_inside pairs.now.view.m.now pairs.now.view.mesh.vtx2xyz.now (some (face_of own.face)) (point2 other)
-        || present (world_in (point2 own.centre) (project_face pairs.now.view.m.now pairs.now.view.mesh.vtx2xyz.now (face_of own.face)))) }
+fn beside_empty_ok(mesh: &Mesh, m: &[f32; 16], own: PixelFace, other: Vec2) -> bool
+    requires { Projects m.now mesh.now.vtx2xyz.now (face_of own.face) }
+    ensures { result ≡ (contains all_inside m.now mesh.now.vtx2xyz.now (some (face_of own.face)) (point2 other)
+        || present (world_in (point2 own.centre) (project_face m.now mesh.now.vtx2xyz.now (face_of own.face)))) }
 {
-    let t = Tri::new(&pairs.view.mesh, pairs.view.m, own.face);
+    let t = Tri::new(mesh, m, own.face);
     t.is_inside(other) || t.has_world(own.centre)
 }
 
 // Question 9 of two faces.
-fn between_ok(pairs: &AxisPairs, first: PixelFace, second: PixelFace) -> bool
-    requires first { Projects pairs.now.view.m.now pairs.now.view.mesh.vtx2xyz.now (face_of first.face) }
-    requires second { Projects pairs.now.view.m.now pairs.now.view.mesh.vtx2xyz.now (face_of second.face) }
-    ensures { result ≡ weighable_all pairs.now.view.m.now pairs.now.view.mesh.vtx2xyz.now
-        (between pairs.now.axis.down pairs.now.view.m.now pairs.now.view.mesh.vtx2xyz.now (some (face_of first.face)) (some (face_of second.face))
+fn between_ok(mesh: &Mesh, m: &[f32; 16], axis: Axis, first: PixelFace, second: PixelFace) -> bool
+    requires first { Projects m.now mesh.now.vtx2xyz.now (face_of first.face) }
+    requires second { Projects m.now mesh.now.vtx2xyz.now (face_of second.face) }
+    ensures { result ≡ weighable_all m.now mesh.now.vtx2xyz.now
+        (between axis.down m.now mesh.now.vtx2xyz.now (some (face_of first.face)) (some (face_of second.face))
         (point2 first.centre) (point2 second.centre)) }
 {
-    let t0 = Tri::new(&pairs.view.mesh, pairs.view.m, first.face);
-    let t1 = Tri::new(&pairs.view.mesh, pairs.view.m, second.face);
+    let t0 = Tri::new(mesh, m, first.face);
+    let t1 = Tri::new(mesh, m, second.face);
     match (t1.is_inside(first.centre), t0.is_inside(second.centre)) {
-        (true, true) => crossing_ok(pairs.axis, t0, t1, first.centre, second.centre),
+        (true, true) => crossing_ok(axis, t0, t1, first.centre, second.centre),
         (true, false) => t0.has_world(first.centre),
         (false, true) => t1.has_world(second.centre),
         (false, false) => true,
     }
 }
 
-// Question 9 of a pair whose entries are not equal.
+// Question 9 of a pair whose entries are not equal, of any mesh: it asks no map.
 #[tactic(auto, using(crate::proofs::Cases::beside_weighs), unfolding(crate::specs::Unwraps::weighable_all))]
-fn unequal_ok(pairs: &AxisPairs, sides: Sides) -> bool
-    requires { SidesProject pairs.now.view.m.now pairs.now.view.mesh.vtx2xyz.now sides }
-    ensures { result ≡ weighable_all pairs.now.view.m.now pairs.now.view.mesh.vtx2xyz.now
-        (shares_of pairs.now.axis.down pairs.now.view.m.now pairs.now.view.mesh.vtx2xyz.now sides) }
+pub fn unequal_ok(mesh: &Mesh, m: &[f32; 16], axis: Axis, sides: Sides) -> bool
+    requires { SidesProject m.now mesh.now.vtx2xyz.now sides }
+    ensures { result ≡ weighable_all m.now mesh.now.vtx2xyz.now
+        (shares_of axis.down m.now mesh.now.vtx2xyz.now sides) }
 {
     match sides {
-        Sides::Both(first, second) => between_ok(pairs, first, second),
-        Sides::Beside(own, other) => beside_empty_ok(pairs, own, other),
+        Sides::Both(first, second) => between_ok(mesh, m, axis, first, second),
+        Sides::Beside(own, other) => beside_empty_ok(mesh, m, own, other),
         Sides::Neither => true,
     }
 }
@@ -89,7 +89,7 @@ fn pair_ok(pairs: &AxisPairs, p: Pixel) -> bool
     ensures { result ≡ unwraps (axis_of pairs.now.axis) (seen_of pairs.now.view) (edge_of pairs.now.axis p) }
 {
     match pairs.unequal(p) {
-        Some(pair) => unequal_ok(pairs, pair.sides),
+        Some(pair) => unequal_ok(&pairs.view.mesh, pairs.view.m, pairs.axis, pair.sides),
         None => true,
     }
 }

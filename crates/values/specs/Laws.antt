@@ -1,5 +1,5 @@
 -- Places filled in turn.
-use Prim.Native.Nat.{ℕ, ◌+◌, ◌≤◌}
+use Prim.Native.Nat.{ℕ, ◌+◌, ◌-◌, ◌*◌, ◌≤◌}
 use Rattle.std.specs.Prelude.{◌≡◌, Float, length}
 use Rattle.std.proofs.Math.Path.{sym, ap, ap₂}
 use Rattle.std.proofs.Common.{◌∙◌, add-zero, zero-add, le_of_eq, length-drop, length-take-le, take_at, get_or-append-add}
@@ -20,6 +20,10 @@ module _ (F : ℕ → Float → Float) where
   pub filled_all : (n : ℕ) (xs : List Float) → length xs ≡ n → filled F 0 n xs ≡ tabulate (λ k. F k (get_or xs k nan)) 0 n
   unfolding filled
   filled_all n xs e = rw (zero-add n, drop_of_length-le xs {i = n} (le_of_eq e)) (append-nil _)
+
+  -- nothing is left of a row of w runs of c
+  pub filled_ended : (a ix w c : ℕ) (xs cur : List Float) → ix ≤ w → w ≤ ix → cur ≡ filled F a (ix * c) xs → cur ≡ filled F a (w * c) xs
+  filled_ended a ix w c xs cur l g e = let same : ix ≡ w = omega arith in e ∙ ap (λ (k : ℕ). filled F a (k * c) xs) same
 
   -- the lent part from `at` on, which came back as ys
   pub filled_lent : (at c : ℕ) (xs ys : List Float) → ys ≡ tabulate (λ j. F (at + j) (get_or (take c (drop at xs)) j nan)) 0 c
@@ -72,3 +76,9 @@ module _ (F : ℕ → Float → Float) where
 
     pub length-filled : length (filled F a n xs) ≡ length xs
     length-filled = ap length filled_is ∙ length-append head (drop (a + n) xs) ∙ ap₂ ◌+◌ length_head (length-drop (a + n) xs) ∙ omega arith
+
+-- the length of a lent part
+pub length_lent : (at c : ℕ) (xs : List Float) → at + c ≤ length xs → length (take (at + c - at) (drop at xs)) ≡ c
+length_lent at c xs h =
+    let e : at + c - at ≡ c = omega arith in
+    ap (λ (k : ℕ). length (take k (drop at xs))) e ∙ length-take-le c (drop at xs) (rw (length-drop at xs) (omega arith))

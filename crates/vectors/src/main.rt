@@ -60,6 +60,7 @@ fn run_one<R: Read, W: Write>(input: &mut R, output: &mut W) -> io::Result<bool>
     Ok(true)
 }
 
+// (The same lines as those of `stops`: a reader and a writer of the runtime go to no other crate.)
 fn main(rt: HostRuntime) -> io::Result<()> {
     let mut input = rt.reader();
     let mut output = io::writer(&rt);

@@ -5,6 +5,7 @@ use Rattle.lists.specs.Laws.Tests.{both}
 use Rattle.questions.specs.Questions.{exact, most_count}
 use Rattle.questions.specs.Laws.{Channels, accepted, exactly}
 use Rattle.questions.proofs.Laws.Opening.{opened, named_well}
+use Rattle.pixels.specs.Laws.{number_below}
 use Rattle.meshes.specs.Sound.{SoundMap}
 use Rattle.meshes.specs.Laws.{sound}
 use Rattle.pixel_rays.specs.Rays.{Image}
@@ -51,3 +52,13 @@ value_there {len} {n} {c} v j e l k = rw e (omega (arith, run_below v n c l))
 -- the same in a buffer of n runs of c
 pub run_there : {v n c k len : ℕ} → k ≡ c → len ≡ n * c → v < n → v * k + k ≤ len
 run_there {v} {n} {c} ek e l = rw (ek, e) (run_below v n c l)
+
+-- pixel p: its entry is in the map, and its run of channels in a buffer
+pub record Run (entries channels c p : ℕ) : Type 0 where
+  pub entry : p < entries
+  pub run : p * c + c ≤ channels
+
+pub run_at : {w h entries channels ix iy : ℕ} (c : ℕ) → entries ≡ w * h → channels ≡ w * h * c → ix < w → iy < h → Run entries channels c (iy * w + ix)
+run_at {w} {h} {entries} {channels} {ix} {iy} c e f a b =
+    let below = number_below a b in
+    record { entry = omega arith; run = omega (arith, run_below (iy * w + ix) (w * h) c below) }

@@ -69,6 +69,7 @@ impl<'a> Pass<'a> {
     ghost use Rattle.vertex_values.specs.Answer.{Lent};
 
     // The questions of a pass with a buffer of `pixels` numbers for its pixels; `others`: have the buffers that it alone is lent the exact length?
+    // (The parameters are the calls'.)
     #[tactic(auto, unfolding(questions::specs::Questions::first_no, crate::specs::Questions::pass_code))]
     pub fn ask(
         w: usize,
