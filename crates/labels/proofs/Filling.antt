@@ -1,35 +1,79 @@
--- The picture, filled pixel by pixel: what holds before pixel p.
-use Prim.Native.Nat.{ℕ, ◌+◌, ◌<◌, ◌≤◌}
-use mathlib.Core.Path.{◌≡◌, ◌∙◌, ap, ap₂}
+-- The picture, filled pixel by pixel and strip by strip.
+use Prim.Native.Nat.{ℕ, zero, suc, ◌+◌, ◌*◌, ◌/◌, ◌%◌, ◌<◌, ◌≤◌}
+use mathlib.Core.Path.{◌≡◌, refl, sym, ◌∙◌, ap, ap₂}
+use mathlib.Core.Bool.{true}
 use mathlib.Core.List.{List}
 use native.Mathlib.Omega.{arith}
-use lib.ListN.{length, get_or, set, length-set}
+use Rattle.std.proofs.Common.{zero-add, add-one, eqb-true}
+use lib.Dec.{eqb}
+use lib.ListN.{length, get_or, set}
+use Rattle.lists.specs.Lists.{span, every}
+use Rattle.lists.specs.Laws.Every.{in_span}
 use Rattle.lists.specs.Laws.Tables.{stored, stored_none, stored_more, stored_all, tabulate-map}
 use Rattle.labels.specs.Labels.{label, labelled}
+use Rattle.labels.specs.Filled.{strip, shown_at, filled}
 
-module _ (t names old : List ℕ) where
-  abbrev shown : ℕ → ℕ
-  shown p = label t (get_or names p 0)
+module _ (f : ℕ → ℕ) (p : ℕ) (xs : List ℕ) where
+  pub filled_none : xs ≡ filled f p 0 xs
+  unfolding filled
+  filled_none = refl
 
-  pub record Filling (p : ℕ) (picture : List ℕ) : Type 0 where
-    pub within : p ≤ length names
-    pub lent : length picture ≡ length names
-    pub so_far : picture ≡ stored shown old p
+  -- one pixel more
+  pub filled_next : (i x : ℕ) (ys : List ℕ) → ys ≡ filled f p i xs → x ≡ f (p + i) → set ys (p + i) x ≡ filled f p (i + 1) xs
+  unfolding filled
+  filled_next i x ys so_far e = rw add-one (ap₂ (λ (l : List ℕ) (v : ℕ). set l (p + i) v) so_far e)
 
-  module _ (same : length old ≡ length names) where
-    pub filling_none : Filling 0 old
-    filling_none = record { within = omega arith; lent = same; so_far = stored_none shown old }
+  -- no pixel is left
+  pub filled_ended : (i n : ℕ) (ys : List ℕ) → i ≤ n → n ≤ i → ys ≡ filled f p i xs → ys ≡ filled f p n xs
+  filled_ended i n ys l g e = let same : i ≡ n = omega arith in e ∙ ap (λ (k : ℕ). filled f p k xs) same
 
-    pub filling_more : {p x : ℕ} {picture : List ℕ} → Filling p picture → p < length names → x ≡ label t (get_or names p 0) → Filling (p + 1) (set picture p x)
-    filling_more {p} {x} {picture} a l e =
-        record {
-          within = omega arith;
-          lent = length-set picture p x ∙ a.lent;
-          so_far = ap₂ (λ (l : List ℕ) (v : ℕ). set l p v) a.so_far e ∙ stored_more shown old p (omega (arith, same));
-        }
+  -- m pixels more
+  pub filled_more : (n m : ℕ) → filled f (p + n) m (filled f p n xs) ≡ filled f p (n + m) xs
+  unfolding filled
+  filled_more n zero = let e : n ≡ n + zero = omega arith in ap (λ (k : ℕ). filled f p k xs) e
+  filled_more n (suc m) =
+      let e : p + n + m ≡ p + (n + m) = omega arith in
+      let k : suc (n + m) ≡ n + suc m = omega arith in
+      ap₂ (λ (l : List ℕ) (q : ℕ). set l q (f q)) (filled_more n m) e ∙ ap (λ (i : ℕ). filled f p i xs) k
 
-    pub filling_all : {p : ℕ} {picture : List ℕ} → Filling p picture → length names ≤ p → picture ≡ labelled t names
-    unfolding labelled
-    filling_all {p} a l =
-        let e : p ≡ length names = omega (arith, a.within) in
-        a.so_far ∙ ap (stored shown old) e ∙ stored_all shown old (length names) same ∙ tabulate-map (label t) 0 names
+  -- two that agree there
+  pub filled_same : (g : ℕ → ℕ) (n : ℕ) → ((i : ℕ) → i < n → f (p + i) ≡ g (p + i)) → filled f p n xs ≡ filled g p n xs
+  unfolding filled
+  filled_same g zero h = refl
+  filled_same g (suc n) h = ap₂ (λ (l : List ℕ) (v : ℕ). set l (p + n) v) (filled_same g n (λ i l. h i (omega arith))) (h n (omega arith))
+
+filled_stored : (f : ℕ → ℕ) (xs : List ℕ) (n : ℕ) → n ≤ length xs → filled f 0 n xs ≡ stored f xs n
+unfolding filled
+filled_stored f xs zero h = stored_none f xs
+filled_stored f xs (suc n) h =
+    ap₂ (λ (l : List ℕ) (q : ℕ). set l q (f q)) (filled_stored f xs n (omega arith)) (zero-add n) ∙ stored_more f xs n (omega arith) ∙ ap (stored f xs) (add-one n)
+
+-- some pixels from 0 on, and m more
+pub filled_on : (f : ℕ → ℕ) (xs ys zs : List ℕ) (n m k : ℕ) → ys ≡ filled f 0 n xs → zs ≡ filled f n m ys → n + m ≡ k → zs ≡ filled f 0 k xs
+filled_on f xs ys zs n m k before more e =
+    more
+    ∙ ap₂ (λ (q : ℕ) (l : List ℕ). filled f q m l) (sym (zero-add n)) before
+    ∙ filled_more f 0 xs n m
+    ∙ ap (λ (i : ℕ). filled f 0 i xs) e
+
+-- a strip whose pixels have one entry
+pub one_body : (t names : List ℕ) (p entry body : ℕ) (xs : List ℕ) → body ≡ label t entry → every (λ i. eqb (get_or names (p + i) 0) entry) (span 0 strip) ≡ true
+    → filled (λ q. body) p strip xs ≡ filled (shown_at t names) p strip xs
+one_body t names p entry body xs e same =
+    filled_same (λ q. body) p xs (shown_at t names) strip
+    (λ i h. e ∙ ap (label t) (sym (eqb-true _ _ (in_span (λ k. eqb (get_or names (p + k) 0) entry) strip same i h))))
+
+-- every pixel
+filled_all : (t names xs : List ℕ) → length xs ≡ length names → filled (shown_at t names) 0 (length names) xs ≡ labelled t names
+unfolding labelled
+filled_all t names xs same =
+    filled_stored (shown_at t names) xs (length names) (omega (arith, same)) ∙ stored_all (shown_at t names) xs (length names) same ∙ tabulate-map (label t) 0 names
+
+-- every strip, and the pixels that are left
+pub labelled_all : (t names xs ys zs : List ℕ) (b : ℕ) → length xs ≡ length names → b ≤ length names / strip → length names / strip ≤ b
+    → ys ≡ filled (shown_at t names) 0 (b * strip) xs → zs ≡ filled (shown_at t names) (length names / strip * strip) (length names % strip) ys → zs ≡ labelled t names
+labelled_all t names xs ys zs b same l g strips rest =
+    let n = length names in
+    let e : b ≡ n / strip = omega arith in
+    filled_on (shown_at t names) xs ys zs (n / strip * strip) (n % strip) n (strips ∙ ap (λ (k : ℕ). filled (shown_at t names) 0 (k * strip) xs) e) rest (omega arith)
+    ∙ filled_all t names xs same

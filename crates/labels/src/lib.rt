@@ -1,13 +1,17 @@
 // The picture of body numbers (02, Point 10): the public call `label_picture`. It is lent the map and a table, and neither depths nor weights.
 #![tactic(auto)]
 
-ghost use Rattle.std.specs.Prelude.{◌≡◌, ◌≤◌, length};
+ghost use Rattle.std.specs.Prelude.{◌≡◌, ◌+◌, ◌≤◌, length};
 ghost use Rattle.questions.specs.Answer.{code_of};
 ghost use Rattle.questions.specs.Questions.{outcome, most_count};
 ghost use Rattle.labels.specs.Labels.{label, labelled, label_code, labelling};
+ghost use Rattle.labels.specs.Filled.{strip, shown_at, filled};
 
 use pixels::ImageSize;
 use questions::{EMPTY, Refusal, ask, count_ok, names_faces, sizes_ok};
+
+// Pixels in a strip of the map. Many strips show one face, or none.
+const STRIP: usize = 32;
 
 // What the screen shows of an entry. Past the table's end there is no body, and there lies empty.
 #[tactic(auto, using(crate::proofs::Laws::label_read, crate::proofs::Laws::label_past))]
@@ -15,10 +19,7 @@ fn label_of(tri2body: &[u32], entry: u32) -> u32
     requires { length tri2body.now ≤ most_count }
     ensures { result ≡ label tri2body.now entry }
 {
-    match tri2body.get(entry as usize) {
-        Some(body) => *body,
-        None => EMPTY,
-    }
+    *tri2body.get(entry as usize).unwrap_or(&EMPTY)
 }
 
 // Questions 1, 3, 4 and 7.
@@ -43,15 +44,64 @@ fn ask_label(
     ask(names_faces(tri2body.len(), pix2tri), Refusal::Faces)
 }
 
+// What the screen shows of `count` pixels from p on.
+#[tactic(auto, using(crate::proofs::Filling::filled_none, crate::proofs::Filling::filled_next, crate::proofs::Filling::filled_ended))]
+fn label_each(pix2tri: &[u32], tri2body: &[u32], p: usize, count: usize, pix2body: &mut [u32])
+    requires few { length tri2body.now ≤ most_count }
+    requires within { p + count ≤ length pix2tri.now }
+    requires lent { length pix2body.old ≡ length pix2tri.now }
+    ensures { pix2body.new ≡ filled (shown_at tri2body.now pix2tri.now) p count pix2body.old }
+{
+    for i in 0..count {
+        pix2body[p + i] = label_of(tri2body, pix2tri[p + i]);
+    }
+}
+
+// One body at each pixel of the strip from p on.
+#[tactic(auto, using(crate::proofs::Filling::filled_none, crate::proofs::Filling::filled_next, crate::proofs::Filling::filled_ended))]
+fn fill_strip(body: u32, p: usize, pix2body: &mut [u32])
+    requires { p + strip ≤ length pix2body.old }
+    ensures { pix2body.new ≡ filled (λ q. body) p strip pix2body.old }
+{
+    for i in 0..STRIP {
+        pix2body[p + i] = body;
+    }
+}
+
+// What the screen shows of the strip from p on. Where all its pixels have one entry, the body is looked up once.
+fn label_strip(pix2tri: &[u32], tri2body: &[u32], p: usize, pix2body: &mut [u32])
+    requires few { length tri2body.now ≤ most_count }
+    requires within { p + strip ≤ length pix2tri.now }
+    requires lent { length pix2body.old ≡ length pix2tri.now }
+    ensures { pix2body.new ≡ filled (shown_at tri2body.now pix2tri.now) p strip pix2body.old }
+{
+    // (The last one's: where pixels differ, the first mostly differs from it, and no other is looked at.)
+    let entry = pix2tri[p + STRIP - 1];
+    if (0..STRIP).all(|i| pix2tri[p + i] == entry) {
+        fill_strip(label_of(tri2body, entry), p, pix2body);
+    } else {
+        label_each(pix2tri, tri2body, p, STRIP, pix2body);
+    }
+}
+
 // What the screen shows of every pixel.
+#[tactic(auto, using(crate::proofs::Filling::filled_none))]
 fn label_pixels(pix2tri: &[u32], tri2body: &[u32], pix2body: &mut [u32])
     requires few { length tri2body.now ≤ most_count }
     requires lent { length pix2body.old ≡ length pix2tri.now }
     ensures { pix2body.new ≡ labelled tri2body.now pix2tri.now }
 {
-    for p in 0..pix2tri.len() {
-        pix2body[p] = label_of(tri2body, pix2tri[p]);
+    let strips = pix2tri.len() / STRIP;
+    for s in 0..strips {
+        label_strip(pix2tri, tri2body, s * STRIP, pix2body);
     }
+    label_each(
+        pix2tri,
+        tri2body,
+        strips * STRIP,
+        pix2tri.len() % STRIP,
+        pix2body,
+    );
 }
 
 // Each pixel's body number, from a table with one for each face; 4294967295 for an empty pixel.

@@ -1,2 +1,4 @@
 -- proved of the definitions in specs/, for the crates above
 pub mod Laws
+-- lemmas of the loop over a map
+pub mod Greatest

@@ -2,7 +2,7 @@
 #![tactic(auto)]
 
 ghost use Rattle.std.specs.Prelude.{◌≡◌, ◌<◌, cond, Ok, Err};
-ghost use Rattle.questions.specs.Questions.{first_no, sizes, channels, groups, slices, bounded, numbers, all_below, names_face, names_faces, opening, naming};
+ghost use Rattle.questions.specs.Questions.{first_no, sizes, channels, groups, slices, bounded, numbers, all_below, names_faces, opening, naming};
 ghost use Rattle.questions.specs.Answer.{number_of, code_of};
 
 use std::fmt;
@@ -129,19 +129,17 @@ pub fn all_below(count: usize, tri2vtx: &[u32]) -> bool
     tri2vtx.iter().all(|v| (*v as usize) < count)
 }
 
-// Does a map entry name a face below `count`, or none?
-#[tactic(auto, unfolding(crate::specs::Questions::names_face))]
-fn names_face(count: usize, entry: u32) -> bool
-    ensures { result ≡ names_face count entry }
-{
-    (entry as usize) < count || entry == EMPTY
-}
-
-// Question 7: is every map entry below `count`, or empty?
+// Question 7: is every map entry below `count`, or empty? Then one more than it, which wraps to 0 for empty, is at most `count`, and the greatest of these answers for all.
+// (No early end, so that several entries are compared at once.)
+#[tactic(auto, using(crate::proofs::Greatest::greatest_more))]
 pub fn names_faces(count: usize, pix2tri: &[u32]) -> bool
     ensures { result ≡ names_faces count pix2tri.now }
 {
-    pix2tri.iter().all(|entry| names_face(count, *entry))
+    let mut most = 0;
+    for entry in pix2tri {
+        most = most.max(entry.wrapping_add(1));
+    }
+    most as usize <= count
 }
 
 // Questions 1 to 3.

@@ -125,14 +125,7 @@ module _ (sc : Scene) (fs : List Face) (keep : ℕ → Bool) (few : length fs �
         rw s.number (kept_at keep z xs (entry p) (omega (arith, s.there)) s.is_kept).0
 
     pub renames : Renames new_number (flat fs) (drawn_map sc fs) (flat kept)
-    renames =
-        record {
-          empty_stays = renumbers.empty_stays;
-          apart = renumbers.apart;
-          was_there = λ p h. rw (count fs) (renumbers.was_there p h);
-          is_there = λ p h. rw (count kept) (renumbers.is_there p h);
-          same_face = same;
-        }
+    renames = record { numbers = rw (count fs, count kept) renumbers; same_face = same }
       where
         same : (p : ℕ) → (entry p ≡ empty → ⊥) → face_at (flat kept) (new_number (entry p)) ≡ face_at (flat fs) (entry p)
         same p h =

@@ -1,5 +1,5 @@
 -- A map whose entries are renamed: a pass sees what it saw.
-use Rattle.std.specs.Prelude.{ℕ, ◌/◌, ◌<◌, ◌≡◌, Bool, List, map, ltb, length, get_or}
+use Rattle.std.specs.Prelude.{ℕ, ◌<◌, ◌≡◌, Bool, List, map, ltb, length, get_or}
 use Rattle.std.proofs.Math.Path.{refl}
 use Rattle.std.proofs.Common.{ap, ap₂, sym, ◌∙◌, le_of_eq, eq-eqb, ne_eqb, eqb-true, lt-ltb}
 use Rattle.std.proofs.Math.Bool.{true, false, or-true}
@@ -56,9 +56,6 @@ module _ {r : ℕ → ℕ} {names : List ℕ} {n n' : ℕ} (s : Renumbers r name
   names_same = names_before ∙ sym names_after
 
 module _ {r : ℕ → ℕ} {tri names tri' : List ℕ} (s : Renames r tri names tri') where
-  numbers : Renumbers r names (length tri / 3) (length tri' / 3)
-  numbers = record { empty_stays = s.empty_stays; apart = s.apart; was_there = s.was_there; is_there = s.is_there }
-
   -- each entry names what it named
   named_same : (p : ℕ) → named tri' (r (entry_at names p)) ≡ named tri (entry_at names p)
   named_same p = go (eqb (entry_at names p) empty) refl
@@ -66,20 +63,20 @@ module _ {r : ℕ → ℕ} {tri names tri' : List ℕ} (s : Renames r tri names 
       go : (b : Bool) → eqb (entry_at names p) empty ≡ b → named tri' (r (entry_at names p)) ≡ named tri (entry_at names p)
       go true e =
           let k = eqb-true _ _ e in
-          named_none tri' (r (entry_at names p)) (ap r k ∙ s.empty_stays) ∙ sym (named_none tri (entry_at names p) k)
+          named_none tri' (r (entry_at names p)) (ap r k ∙ s.numbers.empty_stays) ∙ sym (named_none tri (entry_at names p) k)
       go false e =
           let k = eqb-false _ _ e in
-          named_some tri' (r (entry_at names p)) (not_emptied numbers p k) ∙ ap some (s.same_face p k) ∙ sym (named_some tri (entry_at names p) k)
+          named_some tri' (r (entry_at names p)) (not_emptied s.numbers p k) ∙ ap some (s.same_face p k) ∙ sym (named_some tri (entry_at names p) k)
 
   -- a pass sees what it saw
   pub view_same : view_of tri' (map r names) ≡ view_of tri names
   view_same = λ i. record { at = λ p. at_same p i; alike = λ p q. both_same p q i }
     where
       at_same : (p : ℕ) → named tri' (entry_at (map r names) p) ≡ named tri (entry_at names p)
-      at_same p = ap (named tri') (entry-renamed numbers p) ∙ named_same p
+      at_same p = ap (named tri') (entry-renamed s.numbers p) ∙ named_same p
 
       both_same : (p q : ℕ) → eqb (entry_at (map r names) p) (entry_at (map r names) q) ≡ eqb (entry_at names p) (entry_at names q)
-      both_same p q = ap₂ eqb (entry-renamed numbers p) (entry-renamed numbers q) ∙ equal_same numbers p q
+      both_same p q = ap₂ eqb (entry-renamed s.numbers p) (entry-renamed s.numbers q) ∙ equal_same s.numbers p q
 
   -- No pass can tell the renamed map with its list from the old ones.
   pub renamed_alike : (n : ℕ) → groups 3 most_count (length tri) ≡ groups 3 most_count (length tri') → all_below n tri ≡ all_below n tri' → Alike n tri names tri' (map r names)
@@ -88,6 +85,6 @@ module _ {r : ℕ → ℕ} {tri names tri' : List ℕ} (s : Renames r tri names 
         slices = slices;
         pixels = sym (length-map names r);
         corners = corners;
-        entries = names_same numbers;
+        entries = names_same s.numbers;
         views = sym view_same;
       }

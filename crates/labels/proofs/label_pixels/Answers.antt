@@ -1,12 +1,10 @@
--- One pixel more is shown at each turn.
-use Rattle.labels.proofs.Filling.{filling_none, filling_more, filling_all}
+-- One strip more is filled at each turn, and then the pixels that are left.
+use Rattle.std.proofs.Common.{arith}
+use Rattle.labels.proofs.Filling.{filled_on, labelled_all}
 use Rattle.labels.proofs.label_pixels.Goals as goal
 
-pub loop-p-init : goal.loop-p-init
-loop-p-init c = filling_none _ _ _ c.requires.lent
-
-pub loop-p-preserved : goal.loop-p-preserved
-loop-p-preserved c = filling_more _ _ _ c.requires.lent c.loop-p.invariant c.loop-p-test.true c.label_of.ensures
+pub loop-s-preserved : goal.loop-s-preserved
+loop-s-preserved c = filled_on _ _ _ _ _ _ _ c.loop-s.invariant c.label_strip.ensures (omega arith)
 
 pub returns : goal.returns
-returns c = filling_all _ _ _ c.requires.lent c.loop-p.invariant c.loop-p-test.false
+returns c = labelled_all _ _ _ _ _ _ c.requires.lent c.loop-s.auto.s-end c.loop-s-test.false c.loop-s.invariant c.label_each.ensures

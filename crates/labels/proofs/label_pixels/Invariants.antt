@@ -1,6 +1,7 @@
--- The pixels before p are shown.
-use Rattle.labels.proofs.Filling.{Filling}
+-- The strips before the next are filled.
+use Rattle.std.proofs.Common.{◌≡◌, ◌*◌}
+use Rattle.labels.specs.Filled.{strip, shown_at, filled}
 use Rattle.labels.proofs.label_pixels.Given as goal
 
-abbrev pub invariant-loop-p : goal.invariant-loop-p
-invariant-loop-p l = Filling l.tri2body l.pix2tri l.initial.pix2body l.p l.pix2body
+abbrev pub invariant-loop-s : goal.invariant-loop-s
+invariant-loop-s l = l.pix2body ≡ filled (shown_at l.tri2body l.pix2tri) 0 (l.s * strip) l.initial.pix2body

@@ -1,0 +1,17 @@
+-- The picture as the code fills it: some pixels in a row, strip by strip.
+use Rattle.std.specs.Prelude.{ℕ, zero, suc, ◌+◌, List, get_or}
+use Rattle.std.proofs.Math.ListN.{set}
+use Rattle.labels.specs.Labels.{label}
+
+-- pixels in a strip
+abbrev pub strip : ℕ
+strip = 32
+
+-- what the screen shows of pixel p
+abbrev pub shown_at : List ℕ → List ℕ → ℕ → ℕ
+shown_at tri2body pix2tri p = label tri2body (get_or pix2tri p 0)
+
+-- f at n pixels from p on, the others as they were
+unfoldable pub filled : (ℕ → ℕ) → ℕ → ℕ → List ℕ → List ℕ
+filled f p zero picture = picture
+filled f p (suc n) picture = set (filled f p n picture) (p + n) (f (p + n))
