@@ -1,17 +1,16 @@
 -- The picture, filled pixel by pixel and strip by strip.
 use Prim.Native.Nat.{ℕ, zero, suc, ◌+◌, ◌*◌, ◌/◌, ◌%◌, ◌<◌, ◌≤◌}
 use mathlib.Core.Path.{◌≡◌, refl, sym, ◌∙◌, ap, ap₂}
-use mathlib.Core.Bool.{true}
+use mathlib.Core.Bool.{Bool, true, ◌&&◌}
 use mathlib.Core.List.{List}
 use native.Mathlib.Omega.{arith}
 use Rattle.std.proofs.Common.{zero-add, add-one, eqb-true}
 use lib.Dec.{eqb}
 use lib.ListN.{length, get_or, set}
-use Rattle.lists.specs.Lists.{span, every}
-use Rattle.lists.specs.Laws.Every.{in_span}
+use Rattle.lists.specs.Laws.Every.{every_none, every_one, every-add, in_span}
 use Rattle.lists.specs.Laws.Tables.{stored, stored_none, stored_more, stored_all, tabulate-map}
 use Rattle.labels.specs.Labels.{label, labelled}
-use Rattle.labels.specs.Filled.{strip, shown_at, filled}
+use Rattle.labels.specs.Filled.{strip, shown_at, all_show, filled}
 
 module _ (f : ℕ → ℕ) (p : ℕ) (xs : List ℕ) where
   pub filled_none : xs ≡ filled f p 0 xs
@@ -56,12 +55,29 @@ filled_on f xs ys zs n m k before more e =
     ∙ filled_more f 0 xs n m
     ∙ ap (λ (i : ℕ). filled f 0 i xs) e
 
+-- the pixels of a strip compared, one by one
+module _ (names : List ℕ) (p entry : ℕ) where
+  pub same_none : true ≡ all_show names p 0 entry
+  unfolding all_show
+  same_none = sym (every_none (λ i. eqb (get_or names (p + i) 0) entry) 0)
+
+  pub same_next : (i : ℕ) (all : Bool) → all ≡ all_show names p i entry → all && eqb (get_or names (p + i) 0) entry ≡ all_show names p (i + 1) entry
+  unfolding all_show
+  same_next i all e =
+      let same : ℕ → Bool = λ k. eqb (get_or names (p + k) 0) entry in
+      ap₂ ◌&&◌ e (sym (every_one same (0 + i) ∙ ap same (zero-add i))) ∙ sym (every-add same 0 i 1)
+
+  pub same_ended : (i n : ℕ) (all : Bool) → i ≤ n → n ≤ i → all ≡ all_show names p i entry → all ≡ all_show names p n entry
+  same_ended i n all l g e = let same : i ≡ n = omega arith in e ∙ ap (λ (k : ℕ). all_show names p k entry) same
+
 -- a strip whose pixels have one entry
-pub one_body : (t names : List ℕ) (p entry body : ℕ) (xs : List ℕ) → body ≡ label t entry → every (λ i. eqb (get_or names (p + i) 0) entry) (span 0 strip) ≡ true
-    → filled (λ q. body) p strip xs ≡ filled (shown_at t names) p strip xs
-one_body t names p entry body xs e same =
-    filled_same (λ q. body) p xs (shown_at t names) strip
-    (λ i h. e ∙ ap (label t) (sym (eqb-true _ _ (in_span (λ k. eqb (get_or names (p + k) 0) entry) strip same i h))))
+pub one_body : (t names : List ℕ) (p entry body : ℕ) (xs ys : List ℕ) → true ≡ all_show names p strip entry → body ≡ label t entry
+    → ys ≡ filled (λ q. body) p strip xs → ys ≡ filled (shown_at t names) p strip xs
+unfolding all_show
+one_body t names p entry body xs ys same e one =
+    one
+    ∙ filled_same (λ q. body) p xs (shown_at t names) strip
+    (λ i h. e ∙ ap (label t) (sym (eqb-true _ _ (in_span (λ k. eqb (get_or names (p + k) 0) entry) strip (sym same) i h))))
 
 -- every pixel
 filled_all : (t names xs : List ℕ) → length xs ≡ length names → filled (shown_at t names) 0 (length names) xs ≡ labelled t names

@@ -5,7 +5,7 @@ ghost use Rattle.std.specs.Prelude.{◌≡◌, ◌+◌, ◌≤◌, length};
 ghost use Rattle.questions.specs.Answer.{code_of};
 ghost use Rattle.questions.specs.Questions.{outcome, most_count};
 ghost use Rattle.labels.specs.Labels.{label, labelled, label_code, labelling};
-ghost use Rattle.labels.specs.Filled.{strip, shown_at, filled};
+ghost use Rattle.labels.specs.Filled.{strip, shown_at, filled, all_show};
 
 use pixels::ImageSize;
 use questions::{EMPTY, Refusal, ask, count_ok, names_faces, sizes_ok};
@@ -68,16 +68,28 @@ fn fill_strip(body: u32, p: usize, pix2body: &mut [u32])
     }
 }
 
-// What the screen shows of the strip from p on. Where all its pixels have one entry, the body is looked up once.
+// Have all pixels of the strip from p on that entry? (No early end, so that several are compared at once.)
+#[tactic(auto, using(crate::proofs::Filling::same_none, crate::proofs::Filling::same_next, crate::proofs::Filling::same_ended))]
+fn all_show(pix2tri: &[u32], p: usize, entry: u32) -> bool
+    requires { p + strip ≤ length pix2tri.now }
+    ensures { result ≡ all_show pix2tri.now p strip entry }
+{
+    let mut all = true;
+    for i in 0..STRIP {
+        all = all & (pix2tri[p + i] == entry);
+    }
+    all
+}
+
+// What the screen shows of the strip from p on. Where all its pixels have one entry, the body is looked up once; of most strips that have more, the ends tell.
 fn label_strip(pix2tri: &[u32], tri2body: &[u32], p: usize, pix2body: &mut [u32])
     requires few { length tri2body.now ≤ most_count }
     requires within { p + strip ≤ length pix2tri.now }
     requires lent { length pix2body.old ≡ length pix2tri.now }
     ensures { pix2body.new ≡ filled (shown_at tri2body.now pix2tri.now) p strip pix2body.old }
 {
-    // (The last one's: where pixels differ, the first mostly differs from it, and no other is looked at.)
-    let entry = pix2tri[p + STRIP - 1];
-    if (0..STRIP).all(|i| pix2tri[p + i] == entry) {
+    let entry = pix2tri[p];
+    if pix2tri[p + STRIP - 1] == entry && all_show(pix2tri, p, entry) {
         fill_strip(label_of(tri2body, entry), p, pix2body);
     } else {
         label_each(pix2tri, tri2body, p, STRIP, pix2body);

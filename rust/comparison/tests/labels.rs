@@ -236,6 +236,26 @@ fn widths_and_heights_to_4096() {
     assert!(refused == (7, largest.pix2body), "its last entry");
 }
 
+/// Maps of one entry but at one pixel, which is shown or refused wherever it lies: several pixels are looked at in one step.
+#[test]
+fn another_entry_is_met_at_any_pixel() {
+    const FACES: u32 = 3;
+    let mut codes = [0; 10];
+    for (pixels, at) in (1..=130).flat_map(|n| (0..n).map(move |at| (n, at))) {
+        for entry in [EMPTY, 0, FACES - 1] {
+            let mut labels = of_one_entry(entry, FACES, (pixels, 1));
+            for other in [EMPTY, 0, 1, FACES - 1, FACES, EMPTY - 1] {
+                labels.pix2tri[at] = other;
+                let left = labelled_by_call(&labels);
+                assert_eq!(left, wanted(&labels), "{other} at {at} of {pixels}");
+                codes[left.0 as usize] += 1;
+            }
+        }
+    }
+    println!("codes of one other entry: {codes:?}");
+    assert_eq!([codes[0], codes[7]], [102_180, 51_090]);
+}
+
 /// A table need not be a multiple of anything; only how long it is is asked.
 #[test]
 fn tables_to_1048576() {
