@@ -1,5 +1,6 @@
 -- What the steps leave in an axis's buffers.
-use Rattle.std.specs.Prelude.{ℕ, zero, suc, ◌+◌, ◌*◌, set, Float}
+use Rattle.std.specs.Prelude.{ℕ, ◌*◌, set, Float}
+use Rattle.lists.specs.Lists.{filled}
 use Rattle.pixels.specs.Edge.{Axis, edge_at, per_row}
 use Rattle.pairs.specs.Pairs.{EdgeView}
 use Rattle.pairs.specs.Gradient.{PixelValues}
@@ -10,14 +11,9 @@ use Rattle.edge_types.specs.Axis.{AxisBuffers, axis_buffers}
 abbrev pub put_at : AxisBuffers → ℕ → ℕ → Float → AxisBuffers
 put_at b i t d = axis_buffers (set b.types i t) (set b.dldrs i d)
 
--- n of each put in a row, from place i on
-unfoldable pub filled : (ℕ → ℕ) → (ℕ → Float) → ℕ → ℕ → AxisBuffers → AxisBuffers
-filled f g i zero b = b
-filled f g i (suc n) b = put_at (filled f g i n b) (i + n) (f (i + n)) (g (i + n))
-
 -- the pairs of an axis, n from number i on
 abbrev pub pairs_filled : Axis → EdgeView → PixelValues → ℕ → ℕ → AxisBuffers → AxisBuffers
-pairs_filled a s v = filled (λ i. type_of s (edge_at a s.width i)) (λ i. dldr_of s v (edge_at a s.width i))
+pairs_filled a s v i n b = axis_buffers (filled (λ k. type_of s (edge_at a s.width k)) i n b.types) (filled (λ k. dldr_of s v (edge_at a s.width k)) i n b.dldrs)
 
 -- those whose first pixels lie in row y
 abbrev pub row_filled : Axis → ℕ → EdgeView → PixelValues → AxisBuffers → AxisBuffers

@@ -2,10 +2,11 @@
 #![tactic(auto)]
 
 ghost use Rattle.std.specs.Prelude.{◌≡◌, ◌+◌, ◌≤◌, length};
+ghost use Rattle.lists.specs.Lists.{filled};
 ghost use Rattle.questions.specs.Answer.{code_of};
 ghost use Rattle.questions.specs.Questions.{outcome, most_count};
 ghost use Rattle.labels.specs.Labels.{label, labelled, label_code, labelling};
-ghost use Rattle.labels.specs.Filled.{strip, shown_at, filled, all_show};
+ghost use Rattle.labels.specs.Filled.{strip, shown_at, all_show};
 
 use pixels::ImageSize;
 use questions::{EMPTY, Refusal, ask, count_ok, names_faces, sizes_ok};
@@ -45,7 +46,7 @@ fn ask_label(
 }
 
 // What the screen shows of `count` pixels from p on.
-#[tactic(auto, using(crate::proofs::Filling::filled_none, crate::proofs::Filling::filled_next, crate::proofs::Filling::filled_ended))]
+#[tactic(auto, using(lists::specs::Laws::Filled::filled_none, lists::specs::Laws::Filled::filled_next, lists::specs::Laws::Filled::filled_ended))]
 fn label_each(pix2tri: &[u32], tri2body: &[u32], p: usize, count: usize, pix2body: &mut [u32])
     requires few { length tri2body.now ≤ most_count }
     requires within { p + count ≤ length pix2tri.now }
@@ -58,7 +59,7 @@ fn label_each(pix2tri: &[u32], tri2body: &[u32], p: usize, count: usize, pix2bod
 }
 
 // One body at each pixel of the strip from p on.
-#[tactic(auto, using(crate::proofs::Filling::filled_none, crate::proofs::Filling::filled_next, crate::proofs::Filling::filled_ended))]
+#[tactic(auto, using(lists::specs::Laws::Filled::filled_none, lists::specs::Laws::Filled::filled_next, lists::specs::Laws::Filled::filled_ended))]
 fn fill_strip(body: u32, p: usize, pix2body: &mut [u32])
     requires { p + strip ≤ length pix2body.old }
     ensures { pix2body.new ≡ filled (λ q. body) p strip pix2body.old }
@@ -69,7 +70,7 @@ fn fill_strip(body: u32, p: usize, pix2body: &mut [u32])
 }
 
 // Have all pixels of the strip from p on that entry? (No early end, so that several are compared at once.)
-#[tactic(auto, using(crate::proofs::Filling::same_none, crate::proofs::Filling::same_next, crate::proofs::Filling::same_ended))]
+#[tactic(auto, using(lists::specs::Laws::Every::gathered_none, lists::specs::Laws::Every::gathered_ended))]
 fn all_show(pix2tri: &[u32], p: usize, entry: u32) -> bool
     requires { p + strip ≤ length pix2tri.now }
     ensures { result ≡ all_show pix2tri.now p strip entry }
@@ -97,7 +98,7 @@ fn label_strip(pix2tri: &[u32], tri2body: &[u32], p: usize, pix2body: &mut [u32]
 }
 
 // What the screen shows of every pixel.
-#[tactic(auto, using(crate::proofs::Filling::filled_none))]
+#[tactic(auto, using(lists::specs::Laws::Filled::filled_none))]
 fn label_pixels(pix2tri: &[u32], tri2body: &[u32], pix2body: &mut [u32])
     requires few { length tri2body.now ≤ most_count }
     requires lent { length pix2body.old ≡ length pix2tri.now }

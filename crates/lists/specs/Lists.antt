@@ -1,5 +1,5 @@
--- Tables of a function, numbers in a row, a test of each, those that pass one, and sums.
-use Rattle.std.specs.Prelude.{ℕ, zero, suc, ◌+◌, Bool, cond}
+-- Tables of a function, numbers in a row, places filled, a test of each, those that pass one, and sums.
+use Rattle.std.specs.Prelude.{ℕ, zero, suc, ◌+◌, Bool, cond, set}
 use Rattle.std.specs.List as list
 use mathlib.Core.List.{List, [], ◌∷◌, map, sum}
 
@@ -13,6 +13,11 @@ tabulate f p (suc n) = f p ∷ tabulate f (suc p) n
 -- n numbers in a row, from a on
 abbrev pub span : ℕ → ℕ → List ℕ
 span a n = tabulate (λ i. i) a n
+
+-- f at n places in a row, from p on, the others as they were
+unfoldable pub filled : {A : Type 0} → (ℕ → A) → ℕ → ℕ → List A → List A
+filled f p zero xs = xs
+filled f p (suc n) xs = set (filled f p n xs) (p + n) (f (p + n))
 
 -- whether every number of a list passes a test
 abbrev pub every : (ℕ → Bool) → List ℕ → Bool

@@ -1,6 +1,6 @@
 -- The pixels before the next are filled.
 use Rattle.std.proofs.Common.{◌≡◌}
-use Rattle.labels.specs.Filled.{filled}
+use Rattle.lists.specs.Lists.{filled}
 use Rattle.labels.proofs.fill_strip.Given as goal
 
 abbrev pub invariant-loop-i : goal.invariant-loop-i

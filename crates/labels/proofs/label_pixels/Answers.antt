@@ -1,6 +1,7 @@
 -- One strip more is filled at each turn, and then the pixels that are left.
 use Rattle.std.proofs.Common.{arith}
-use Rattle.labels.proofs.Filling.{filled_on, labelled_all}
+use Rattle.lists.specs.Laws.Filled.{filled_on}
+use Rattle.labels.proofs.Filling.{labelled_all}
 use Rattle.labels.proofs.label_pixels.Goals as goal
 
 pub loop-s-preserved : goal.loop-s-preserved

@@ -1,4 +1,4 @@
--- What the greatest sum so far tells, and the entries that are left.
+-- What the greatest so far tells, and the entries that are left.
 use Rattle.std.proofs.Common.{◌≡◌, ◌&&◌, leb, drop}
 use Rattle.lists.specs.Lists.{every}
 use Rattle.questions.specs.Questions.{names_face}
