@@ -6,7 +6,7 @@ use Rattle.lists.specs.Laws.Every.{in_span}
 use Rattle.lists.specs.Laws.Tables.{tabulate-map}
 use Rattle.lists.specs.Laws.Filled.{filled_same, filled_on, filled_all}
 use Rattle.labels.specs.Labels.{label, labelled}
-use Rattle.labels.specs.Filled.{strip, shown_at, all_show}
+use Rattle.labels.specs.Strips.{strip, shown_at, all_show}
 
 -- a strip whose pixels have one entry
 pub one_body : (t names : List ℕ) (p entry body : ℕ) (xs ys : List ℕ) → true ≡ all_show names p strip entry → body ≡ label t entry

@@ -2,7 +2,7 @@
 pub mod Labels
 pub mod Ready
 -- how the code fills it
-pub mod Filled
+pub mod Strips
 -- what the label screen can tell of a layer
 pub mod Screen
 pub mod Told

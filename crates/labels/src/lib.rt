@@ -6,7 +6,7 @@ ghost use Rattle.lists.specs.Lists.{filled};
 ghost use Rattle.questions.specs.Answer.{code_of};
 ghost use Rattle.questions.specs.Questions.{outcome, most_count};
 ghost use Rattle.labels.specs.Labels.{label, labelled, label_code, labelling};
-ghost use Rattle.labels.specs.Filled.{strip, shown_at, all_show};
+ghost use Rattle.labels.specs.Strips.{strip, shown_at, all_show};
 
 use pixels::ImageSize;
 use questions::{EMPTY, Refusal, ask, count_ok, names_faces, sizes_ok};

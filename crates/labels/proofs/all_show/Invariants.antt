@@ -1,6 +1,6 @@
 -- The pixels before the next are compared.
 use Rattle.std.proofs.Common.{◌≡◌}
-use Rattle.labels.specs.Filled.{all_show}
+use Rattle.labels.specs.Strips.{all_show}
 use Rattle.labels.proofs.all_show.Given as goal
 
 abbrev pub invariant-loop-i : goal.invariant-loop-i

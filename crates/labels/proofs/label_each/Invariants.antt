@@ -1,7 +1,7 @@
 -- The pixels before the next are filled.
 use Rattle.std.proofs.Common.{◌≡◌}
 use Rattle.lists.specs.Lists.{filled}
-use Rattle.labels.specs.Filled.{shown_at}
+use Rattle.labels.specs.Strips.{shown_at}
 use Rattle.labels.proofs.label_each.Given as goal
 
 abbrev pub invariant-loop-i : goal.invariant-loop-i

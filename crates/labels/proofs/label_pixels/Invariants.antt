@@ -1,7 +1,7 @@
 -- The strips before the next are filled.
 use Rattle.std.proofs.Common.{◌≡◌, ◌*◌}
 use Rattle.lists.specs.Lists.{filled}
-use Rattle.labels.specs.Filled.{strip, shown_at}
+use Rattle.labels.specs.Strips.{strip, shown_at}
 use Rattle.labels.proofs.label_pixels.Given as goal
 
 abbrev pub invariant-loop-s : goal.invariant-loop-s

@@ -1,4 +1,4 @@
--- What the loops over the picture promise of some pixels in a row.
+-- What the loops over the picture and its strips promise.
 use Rattle.std.specs.Prelude.{ℕ, ◌+◌, Bool, List, eqb, get_or}
 use Rattle.lists.specs.Lists.{span, every}
 use Rattle.labels.specs.Labels.{label}
