@@ -37,6 +37,10 @@ most_channels = 16
 abbrev pub most_count : ℕ
 most_count = 1048576
 
+-- 02, Point 1: "at most 3,145,728 edges"
+abbrev pub most_edges : ℕ
+most_edges = 3145728
+
 -- the map's entry of a pixel that shows no face, "called empty"
 abbrev pub empty : ℕ
 empty = 4294967295
@@ -57,6 +61,10 @@ groups of most n = eqb (n % of) 0 && leb (n / of) most
 abbrev pub slices : ℕ → ℕ → Bool
 slices tri xyz = groups 3 most_count tri && groups 3 most_count xyz
 
+-- 02, Point 1: of an outline, "edge slices, by twos", and of the mesh's vertex slice
+abbrev pub edge_slices : ℕ → ℕ → Bool
+edge_slices edges xyz = groups 2 most_edges edges && groups 3 most_count xyz
+
 -- of a face count by itself
 unfoldable pub bounded : ℕ → Bool
 bounded faces = leb faces most_count
@@ -69,7 +77,7 @@ exact n len = eqb len n
 unfoldable pub numbers : ℕ → ℕ → Bool
 numbers first faces = leb (first + faces) most_count
 
--- 6. Is every vertex number in every face below the vertex count?
+-- 6. Is every vertex number in every face below the vertex count?  10 asks it of outline edges (02, Point 1).
 abbrev pub all_below : ℕ → List ℕ → Bool
 all_below n = every (λ x. ltb x n)
 

@@ -2,7 +2,7 @@
 #![tactic(auto)]
 
 ghost use Rattle.std.specs.Prelude.{◌≡◌, ◌<◌, cond, Ok, Err};
-ghost use Rattle.questions.specs.Questions.{first_no, sizes, channels, groups, slices, bounded, numbers, all_below, names_faces, opening, naming};
+ghost use Rattle.questions.specs.Questions.{first_no, sizes, channels, groups, slices, edge_slices, bounded, numbers, all_below, names_faces, opening, naming};
 ghost use Rattle.questions.specs.Answer.{number_of, code_of};
 
 use std::fmt;
@@ -19,6 +19,7 @@ pub enum Refusal {
     Faces = 7,
     Projections = 8,
     Weights = 9,
+    Edges = 10,
 }
 
 impl fmt::Display for Refusal {
@@ -33,6 +34,7 @@ impl fmt::Display for Refusal {
             Refusal::Faces => "the map names a face that is not there",
             Refusal::Projections => "a projection that the pass needs has no answer",
             Refusal::Weights => "the weights of a point that the pass needs have no answer",
+            Refusal::Edges => "an outline edge names a vertex that is not there",
         })
     }
 }
@@ -71,6 +73,9 @@ const MOST_CHANNELS: usize = 16;
 // Faces or vertices, at most.
 pub const MOST_COUNT: usize = 1048576;
 
+// Outline edges, at most: three for each face.
+pub const MOST_EDGES: usize = 3145728;
+
 // The map's entry of a pixel that shows no face.
 pub const EMPTY: u32 = 4294967295;
 
@@ -106,6 +111,13 @@ pub fn slices_ok(tri: usize, xyz: usize) -> bool
     groups_ok(3, MOST_COUNT, tri) && groups_ok(3, MOST_COUNT, xyz)
 }
 
+// Question 3 of outline edges whose slice, and that of their mesh's vertices, are so long.
+pub fn edge_slices_ok(edges: usize, xyz: usize) -> bool
+    ensures { result ≡ edge_slices edges xyz }
+{
+    groups_ok(2, MOST_EDGES, edges) && groups_ok(3, MOST_COUNT, xyz)
+}
+
 // Question 3 of a face count by itself.
 #[tactic(auto, unfolding(crate::specs::Questions::bounded))]
 pub fn count_ok(faces: usize) -> bool
@@ -122,7 +134,7 @@ pub fn numbers_ok(first: u32, faces: usize) -> bool
     count_ok(faces) && first as usize <= MOST_COUNT - faces
 }
 
-// Question 6: is every vertex number below `count`?
+// Question 6, and question 10 of outline edges: is every vertex number below `count`?
 pub fn all_below(count: usize, tri2vtx: &[u32]) -> bool
     ensures { result ≡ all_below count tri2vtx.now }
 {

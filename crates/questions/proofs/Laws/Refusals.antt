@@ -2,7 +2,7 @@
 use Rattle.std.specs.Prelude.{ℕ, ◌≡◌, refl, Bool, true, false, cond, Ok, Err}
 use Rattle.std.proofs.Common.{arith}
 use Rattle.questions.specs.declared.Refusal.{Refusal}
-use Rattle.questions.specs.declared.Refusal.TheVariants.{Size, Channels, Slices, Lengths, Numbers, Vertices, Faces, Projections, Weights}
+use Rattle.questions.specs.declared.Refusal.TheVariants.{Size, Channels, Slices, Lengths, Numbers, Vertices, Faces, Projections, Weights, Edges}
 use Rattle.questions.specs.Answer.{number_of}
 use Rattle.questions.specs.Questions.{outcome, answer}
 use Rattle.questions.specs.Laws.{call_refused}
@@ -23,6 +23,7 @@ never_accepted Vertices e = omega (arith, e)
 never_accepted Faces e = omega (arith, e)
 never_accepted Projections e = omega (arith, e)
 never_accepted Weights e = omega (arith, e)
+never_accepted Edges e = omega (arith, e)
 
 -- a refused call leaves what it was lent
 pub refused : {A : Type 0} {k : ℕ} {before : A} (r : Refusal) (after : A) → number_of r ≡ k → outcome (number_of r) before ≡ answer k before after
