@@ -6,3 +6,4 @@ pub mod Every
 pub mod Turns
 pub mod Sums
 pub mod Filters
+pub mod Folds

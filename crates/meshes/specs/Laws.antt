@@ -1,10 +1,11 @@
 -- Proved of the definitions, for the crates that use them.
 use Rattle.std.specs.Prelude.{ℕ, zero, suc, ◌+◌, ◌-◌, ◌*◌, ◌/◌, ◌≤◌, ◌<◌, ◌≡◌, refl, true, ltb, Float, length, get_or, take, drop}
-use Rattle.std.proofs.Common.{sym, ap, ◌∙◌, not-suc-le-zero, le_of_suc-le-suc, zero-add, add-one, arith, eq-eqb, ne_eqb, length-set, length-drop, drop-cons, length-take-le, get_or-take, get_or-drop}
+use Rattle.std.proofs.Common.{sym, ap, ◌∙◌, not-suc-le-zero, le_of_suc-le-suc, add-one, arith, eq-eqb, ne_eqb, length-set, length-drop, drop-cons, length-take-le, get_or-take, get_or-drop}
 use Rattle.std.proofs.Math.Option.{none, some}
 use mathlib.Core.List.{List, [], ◌∷◌, ◌++◌, flat_map}
 use Rattle.lists.specs.Lists.{span}
-use Rattle.lists.specs.Laws.Turns.{flat_map_none, flat_map-one, flat_map-add}
+use Rattle.std.proofs.lemmas.List.Sums.{fold-append}
+use Rattle.lists.specs.Laws.Folds.{folded_then, folds_none, folds_add, folds_one, folds_more, folds_ended}
 use Rattle.lists.specs.Laws.Every.{every-at, every_of}
 use Rattle.questions.specs.Questions.{all_below, names_face, names_faces, empty, most_count}
 use Rattle.questions.specs.Laws.{Sized, Grouped, whole, below_at}
@@ -135,11 +136,11 @@ module _ (from to : ℕ) where
 -- one list of additions after the other
 pub summed-append : (s : List Float) (xs ys : List Addition) → summed s (xs ++ ys) ≡ summed (summed s xs) ys
 unfolding summed
-summed-append s [] ys = refl
-summed-append s (x ∷ xs) ys = summed-append (added s x) xs ys
+summed-append s xs ys = fold-append added s xs ys
 
 pub summed_then : (s : List Float) {s1 s2 : List Float} (x y : List Addition) → s1 ≡ summed s x → s2 ≡ summed s1 y → s2 ≡ summed s (x ++ y)
-summed_then s {s1} {s2} x y p q = q ∙ ap (λ (t : List Float). summed t y) p ∙ sym (summed-append s x y)
+unfolding summed
+summed_then s x y p q = folded_then added s x y p q
 
 pub length-summed : (s : List Float) (xs : List Addition) → length (summed s xs) ≡ length s
 unfolding summed added
@@ -151,27 +152,27 @@ length-summed s (x ∷ xs) = length-summed (added s x) xs ∙ length-set s x.pla
 module _ (f : ℕ → List Addition) (s : List Float) where
   pub turns_none : (a : ℕ) → s ≡ summed s (flat_map f (span a 0))
   unfolding summed
-  turns_none a = rw (flat_map_none f a)
+  turns_none a = folds_none added f s a
 
   -- n turns from a on, and m more
   pub turns_add : (a n m : ℕ) → summed s (flat_map f (span a (n + m))) ≡ summed (summed s (flat_map f (span a n))) (flat_map f (span (a + n) m))
-  turns_add a n m = ap (summed s) (flat_map-add f a n m) ∙ summed-append s (flat_map f (span a n)) (flat_map f (span (a + n) m))
+  unfolding summed
+  turns_add a n m = folds_add added f s a n m
 
   pub turns_one : (p : ℕ) → summed s (flat_map f (span p 1)) ≡ summed s (f p)
-  turns_one p = ap (summed s) (flat_map-one f p)
+  unfolding summed
+  turns_one p = folds_one added f s p
 
 -- turn j of a loop from 0 on
 pub turns_more : (f : ℕ → List Addition) (s : List Float) (j : ℕ) {cur new : List Float} → cur ≡ summed s (flat_map f (span 0 j)) → new ≡ summed cur (f j)
     → new ≡ summed s (flat_map f (span 0 (j + 1)))
-turns_more f s j {cur} e step =
-    step
-    ∙ ap (λ (t : List Float). summed t (f j)) e
-    ∙ ap (λ (k : ℕ). summed (summed s (flat_map f (span 0 j))) (f k)) (sym (zero-add j))
-    ∙ sym (turns_add f s 0 j 1 ∙ turns_one f (summed s (flat_map f (span 0 j))) (0 + j))
+unfolding summed
+turns_more f s j e step = folds_more added f s j e step
 
 pub turns_ended : (f : ℕ → List Addition) (s : List Float) (j n : ℕ) {cur : List Float} → j ≤ n → n ≤ j → cur ≡ summed s (flat_map f (span 0 j))
     → cur ≡ summed s (flat_map f (span 0 n))
-turns_ended f s j n l g e = let same : j ≡ n = omega arith in e ∙ ap (λ (k : ℕ). summed s (flat_map f (span 0 k))) same
+unfolding summed
+turns_ended f s j n l g e = folds_ended added f s j n l g e
 
 -- ---- an accepted mesh and its map
 

@@ -1,5 +1,6 @@
 -- Sums into an accumulator: additions, one after the other, each rounding once, so that every place has one order of its sum.
-use Rattle.std.specs.Prelude.{ℕ, List, [], ◌∷◌, get_or, set, Float}
+use Rattle.std.specs.Prelude.{ℕ, List, get_or, set, Float}
+use Rattle.std.specs.List.{fold}
 use Rattle.std.specs.Float.{nan}
 use Rattle.geometry.specs.Arith.{floats}
 
@@ -17,5 +18,4 @@ added sums a = set sums a.place (floats.add (get_or sums a.place nan) a.amount)
 
 -- and after all, in order
 unfoldable pub summed : List Float → List Addition → List Float
-summed sums [] = sums
-summed sums (a ∷ as') = summed (added sums a) as'
+summed sums as' = fold added sums as'

@@ -1,7 +1,7 @@
 -- What the turns of a loop bring, one list after the other.
-use Rattle.std.specs.Prelude.{ℕ, ◌+◌, ◌≡◌}
-use Rattle.std.proofs.Math.Path.{refl, sym, ap}
-use Rattle.std.proofs.Common.{◌∙◌}
+use Rattle.std.specs.Prelude.{ℕ, zero, suc, ◌+◌, ◌*◌, ◌<◌, ◌≡◌}
+use Rattle.std.proofs.Math.Path.{refl, sym, ap, ap₂}
+use Rattle.std.proofs.Common.{◌∙◌, add-zero, zero-add, zero-mul, arith}
 use mathlib.Core.List.{List, [], ◌∷◌, ◌++◌, flat_map, append_assoc, append-nil}
 use Rattle.lists.specs.Lists.{tabulate, span}
 use Rattle.lists.specs.Laws.Tables.{tabulate-add}
@@ -23,3 +23,38 @@ module _ {B : Type 0} (f : ℕ → List B) where
   -- n turns from a on, and m more
   pub flat_map-add : (a n m : ℕ) → flat_map f (span a (n + m)) ≡ flat_map f (span a n) ++ flat_map f (span (a + n) m)
   flat_map-add a n m = ap (flat_map f) (tabulate-add (λ i. i) a n m) ∙ flat_map-append (span a n) (span (a + n) m)
+
+-- turns that bring the same, from a on and from b on
+pub turns_same : {B : Type 0} (f g : ℕ → List B) (a b n : ℕ) → ((i : ℕ) → i < n → f (a + i) ≡ g (b + i)) → flat_map f (span a n) ≡ flat_map g (span b n)
+unfolding flat_map tabulate
+turns_same f g a b zero e = refl
+turns_same f g a b (suc n) e =
+    ap₂ ◌++◌ (ap f (sym (add-zero a)) ∙ e 0 (omega arith) ∙ ap g (add-zero b))
+    (turns_same f g (suc a) (suc b) n
+    (λ i h.
+    let k : suc a + i ≡ a + suc i = omega arith in
+    let l : b + suc i ≡ suc b + i = omega arith in
+    ap f k ∙ e (suc i) (omega arith) ∙ ap g l))
+
+module _ {B : Type 0} (f : ℕ → List B) where
+  -- turns that bring nothing
+  pub turns_nothing : (a n : ℕ) → ((i : ℕ) → i < n → f (a + i) ≡ []) → flat_map f (span a n) ≡ []
+  unfolding flat_map tabulate
+  turns_nothing a zero e = refl
+  turns_nothing a (suc n) e =
+      ap₂ ◌++◌ (ap f (sym (add-zero a)) ∙ e 0 (omega arith))
+      (turns_nothing (suc a) n (λ i h. let k : suc a + i ≡ a + suc i = omega arith in ap f k ∙ e (suc i) (omega arith)))
+
+  -- row by row of n, where row y brings what g says of it
+  pub turns_by_rows : (g : ℕ → List B) (n m : ℕ) → ((y : ℕ) → flat_map f (span (y * n) n) ≡ g y) → flat_map f (span 0 (m * n)) ≡ flat_map g (span 0 m)
+  unfolding flat_map tabulate
+  turns_by_rows g n zero e = ap (λ (k : ℕ). flat_map f (span 0 k)) (zero-mul n)
+  turns_by_rows g n (suc m) e =
+      let k : suc m * n ≡ m * n + n = omega arith in
+      let l : suc m ≡ m + 1 = omega arith in
+      ap (λ (i : ℕ). flat_map f (span 0 i)) k
+      ∙ flat_map-add f 0 (m * n) n
+      ∙ ap₂ ◌++◌ (turns_by_rows g n m e)
+          (ap (λ (i : ℕ). flat_map f (span i n)) (zero-add (m * n)) ∙ e m ∙ sym (flat_map-one g m) ∙ ap (λ (i : ℕ). flat_map g (span i 1)) (sym (zero-add m)))
+      ∙ sym (flat_map-add g 0 m 1)
+      ∙ ap (λ (i : ℕ). flat_map g (span 0 i)) (sym l)

@@ -1,0 +1,38 @@
+-- What the turns of a loop do to a value, one step for each item that they bring.
+use Rattle.std.specs.Prelude.{ℕ, ◌+◌, ◌≤◌, ◌≡◌}
+use Rattle.std.proofs.Math.Path.{sym, ap}
+use Rattle.std.proofs.Common.{◌∙◌, zero-add, arith}
+use Rattle.std.specs.List.{fold}
+use Rattle.std.proofs.lemmas.List.Sums.{fold-append}
+use mathlib.Core.List.{List, ◌++◌, flat_map}
+use Rattle.lists.specs.Lists.{span}
+use Rattle.lists.specs.Laws.Turns.{flat_map_none, flat_map-one, flat_map-add}
+
+module _ {S A : Type 0} (step : S → A → S) where
+  -- one list of items after the other
+  pub folded_then : (s : S) {s1 s2 : S} (x y : List A) → s1 ≡ fold step s x → s2 ≡ fold step s1 y → s2 ≡ fold step s (x ++ y)
+  folded_then s {s1} {s2} x y p q = q ∙ ap (λ (t : S). fold step t y) p ∙ sym (fold-append step s x y)
+
+  module _ (f : ℕ → List A) (s : S) where
+    pub folds_none : (a : ℕ) → s ≡ fold step s (flat_map f (span a 0))
+    folds_none a = rw (flat_map_none f a)
+
+    -- n turns from a on, and m more
+    pub folds_add : (a n m : ℕ) → fold step s (flat_map f (span a (n + m))) ≡ fold step (fold step s (flat_map f (span a n))) (flat_map f (span (a + n) m))
+    folds_add a n m = ap (fold step s) (flat_map-add f a n m) ∙ fold-append step s (flat_map f (span a n)) (flat_map f (span (a + n) m))
+
+    pub folds_one : (p : ℕ) → fold step s (flat_map f (span p 1)) ≡ fold step s (f p)
+    folds_one p = ap (fold step s) (flat_map-one f p)
+
+  -- turn j of a loop from 0 on
+  pub folds_more : (f : ℕ → List A) (s : S) (j : ℕ) {cur new : S} → cur ≡ fold step s (flat_map f (span 0 j)) → new ≡ fold step cur (f j)
+      → new ≡ fold step s (flat_map f (span 0 (j + 1)))
+  folds_more f s j {cur} e next =
+      next
+      ∙ ap (λ (t : S). fold step t (f j)) e
+      ∙ ap (λ (k : ℕ). fold step (fold step s (flat_map f (span 0 j))) (f k)) (sym (zero-add j))
+      ∙ sym (folds_add f s 0 j 1 ∙ folds_one f (fold step s (flat_map f (span 0 j))) (0 + j))
+
+  pub folds_ended : (f : ℕ → List A) (s : S) (j n : ℕ) {cur : S} → j ≤ n → n ≤ j → cur ≡ fold step s (flat_map f (span 0 j))
+      → cur ≡ fold step s (flat_map f (span 0 n))
+  folds_ended f s j n l g e = let same : j ≡ n = omega arith in e ∙ ap (λ (k : ℕ). fold step s (flat_map f (span 0 k))) same
