@@ -25,23 +25,14 @@ fn has_reached(end: End, i: usize) -> bool
     }
 }
 
-// The whole number nearest to the end, held between 0 and n: nothing rests on it but speed. Above 2^23 an f32 has no fraction, and its last digits are the
-// number.
+// A number to begin with: nothing rests on it but speed.
 fn guess(end: End, n: usize) -> usize
     ensures { result ≤ n }
 {
-    let x = match end {
-        End::Lower(x) => x,
-        End::Upper(x) => x,
-    };
-    let t = x + 8388608.0;
-    if t < 8388608.0 {
-        return 0;
+    match end {
+        End::Lower(x) => pixels::nearest_held(x, n),
+        End::Upper(x) => pixels::nearest_held(x, n),
     }
-    if t < 8396800.0 {
-        return n.min((t.to_bits() % 16384) as usize);
-    }
-    n
 }
 
 // Whether the one before i has reached the end.

@@ -103,3 +103,18 @@ pub fn centre_of(p: Pixel) -> Vec2
         y: centre(p.y),
     }
 }
+
+// The whole number nearest to x, held between 0 and n: a guess, on which nothing rests but speed. Above 2^23 an f32 has no fraction, and its last digits are
+// the number.
+pub fn nearest_held(x: f32, n: usize) -> usize
+    ensures { result ≤ n }
+{
+    let t = x + 8388608.0;
+    if t < 8388608.0 {
+        return 0;
+    }
+    if t < 8396800.0 {
+        return n.min((t.to_bits() % 16384) as usize);
+    }
+    n
+}

@@ -55,6 +55,6 @@ module _ {B : Type 0} (f : ℕ → List B) where
       ap (λ (i : ℕ). flat_map f (span 0 i)) k
       ∙ flat_map-add f 0 (m * n) n
       ∙ ap₂ ◌++◌ (turns_by_rows g n m e)
-          (ap (λ (i : ℕ). flat_map f (span i n)) (zero-add (m * n)) ∙ e m ∙ sym (flat_map-one g m) ∙ ap (λ (i : ℕ). flat_map g (span i 1)) (sym (zero-add m)))
+      (ap (λ (i : ℕ). flat_map f (span i n)) (zero-add (m * n)) ∙ e m ∙ sym (flat_map-one g m) ∙ ap (λ (i : ℕ). flat_map g (span i 1)) (sym (zero-add m)))
       ∙ sym (flat_map-add g 0 m 1)
       ∙ ap (λ (i : ℕ). flat_map g (span 0 i)) (sym l)
