@@ -1,0 +1,2 @@
+-- 02, Point 1: the lines of an image outside which an outline edge covers nothing.
+pub mod Narrowed

@@ -1,0 +1,2 @@
+// The order of finite floats and of rounded results: laws, in specs/. There is no code here.
+#![tactic(auto)]
