@@ -14,13 +14,15 @@
  * again. That a NaN keeps its payload is tested and not proved: to the proofs there is one NaN.
  *   1  are width and height from 1 to 4,096?
  *   2  are channels per pixel from 1 to 16?
- *   3  are vertex and face slices multiples of 3, for at most 1,048,576 vertices and as many faces?
+ *   3  are vertex and face slices multiples of 3, for at most 1,048,576 vertices and as many faces? Outline edges go by twos, at
+ *      most 3,145,728 of them.
  *   4  has every other buffer the exact length?
  *   5  is first number plus face count at most 1,048,576?
  *   6  is every vertex number in every face below the vertex count?
  *   7  is every map entry below the face count, or empty (4294967295)?
  *   8  has every projection that the call needs an answer?
  *   9  has every point that the call needs weights?
+ *  10  is every vertex number in every outline edge below the vertex count? Asked after 6.
  *
  * An image has img_w * img_h pixels, row by row from the top. A layer is three slices side by side: a map, the number of a
  * face or empty for each pixel; a depth for each pixel; and three weights for each pixel, those of pixel p at 3 * p,
@@ -238,6 +240,42 @@ uint32_t paqelzim_bwd(const uint32_t *tri2vtx, size_t tri2vtx_len,
                       size_t num_vdim,
                       const float *pix2val, size_t pix2val_len,
                       const float *dldw_pix2val, size_t dldw_pix2val_len);
+
+/* Smooths the outline: where an edge of cedge2vtx (two vertex numbers each) crosses the line between the centres of a pixel that
+ * shows a face and of an empty neighbour, the nearer of the two gets a mix of both values. Edges go in their order, and each along
+ * the pixels that it covers, in rising number: those whose closed square it meets on the picture. Pixels on the image border are
+ * passed over. A covered pixel is paired with its left and right neighbour where the edge goes farther down than across, else with
+ * its upper and lower one. Where the edge, ends included, crosses at a share rc of the way from the shown centre to the empty one,
+ * from 0 up to but not including 1, the shown pixel gets 0.5 + rc parts of its own value and the rest of the empty one's if rc is
+ * below 0.5; else the empty pixel gets rc - 0.5 parts of the shown value and the rest of its own. Of the map only its empty
+ * entries count: which faces the others name is all one, and not asked.
+ * Writes: pix2vout, at the pixels that a crossing gives a mix; the last in the order stands. All others keep what they held: for a
+ * whole picture, let pix2vout begin as a copy of pix2vin.
+ * Questions: 1; 3: cedge2vtx is a multiple of 2, for at most 3,145,728 edges, vtx2xyz of 3; 4: pix2tri, pix2vin and pix2vout have
+ * img_w * img_h elements; 10; 8: both ends of each edge. */
+uint32_t paqelzim_antialias(const uint32_t *cedge2vtx, size_t cedge2vtx_len,
+                            const float *vtx2xyz, size_t vtx2xyz_len,
+                            const float *transform_world2pix,
+                            size_t img_w, size_t img_h,
+                            const uint32_t *pix2tri, size_t pix2tri_len,
+                            const float *pix2vin, size_t pix2vin_len,
+                            float *pix2vout, size_t pix2vout_len);
+
+/* Goes back through paqelzim_antialias: adds what each of its crossings brings the two ends of its edge, in the same order, that of
+ * vertex 0 first. pix2val is the pix2vin of the forward call, dldw_pix2val the gradient of its pix2vout. A crossing adds though a
+ * later one wrote over its pixel, and as often as it is met: twice where the edge covers both pixels of the pair. The ends may gain
+ * gradient though no face that the map names has them.
+ * Writes: adds to dldw_vtx2xyz, at the ends of edges with a crossing. A vertex of no outline edge keeps its gradient.
+ * Questions: 1; 3: as above; 4: dldw_vtx2xyz is as long as vtx2xyz, pix2val, dldw_pix2val and pix2tri have img_w * img_h elements;
+ * 10; 8: both ends of each edge. */
+uint32_t paqelzim_bwd_antialias(const uint32_t *cedge2vtx, size_t cedge2vtx_len,
+                                const float *vtx2xyz, size_t vtx2xyz_len,
+                                float *dldw_vtx2xyz, size_t dldw_vtx2xyz_len,
+                                const float *transform_world2pix,
+                                size_t img_w, size_t img_h,
+                                const float *pix2val, size_t pix2val_len,
+                                const float *dldw_pix2val, size_t dldw_pix2val_len,
+                                const uint32_t *pix2tri, size_t pix2tri_len);
 
 /* Gives each point of vtx2xy (two numbers, in pixels) the velocity between the edges of its cell: x from the vedges, y
  * from the hedges.

@@ -1,9 +1,9 @@
 //! Finds the listed Rust, in the folder that `DEL_MSH_SRC` names or in `../shared/docs/src` beside the
 //! repository, and has it compiled unchanged from there. Where it is not found, the comparison is left out.
-//! Of edgegrad.rs a second module has the places changed that 01 and 02 decide otherwise (docs/DIFFERENCES.md), and of
-//! pix2tri.rs one that also keeps its pieces, counts the pixels of the image that its scans offer (02, Point 6), has its scan of
-//! one piece public (02, Point 7), and keeps the weights of each depth that it writes (02, Point 9). A third of pix2tri.rs does so
-//! too and asks each candidate how it faces (02, Point 8).
+//! Of edgegrad.rs and of antialias.rs a second module has the places changed that 01 and 02 decide otherwise
+//! (docs/DIFFERENCES.md), and of pix2tri.rs one that also keeps its pieces, counts the pixels of the image that its scans offer (02,
+//! Point 6), has its scan of one piece public (02, Point 7), and keeps the weights of each depth that it writes (02, Point 9). A
+//! third of pix2tri.rs does so too and asks each candidate how it faces (02, Point 8).
 use std::path::{Path, PathBuf};
 
 /// How often a place stands in a file, as listed and as changed.
@@ -35,6 +35,15 @@ const CHANGES: [Change; 4] = [
         "std::convert::identity(inside_by_bwd(",
     ),
 ];
+
+/// The image border, whose pixels 02, Point 1 passes over: at some of them the file's index leaves the image. Both passes are given
+/// the covered pixels without it. That an edge through the second centre is no crossing (rc = 1) needs no change, as the stand-in's
+/// intersection follows 02 there.
+const INNER: [Change; 1] = [(
+    2,
+    "del_geo_core::edge2::overlapping_pixels_dda(",
+    "del_geo_core::edge2::overlapping_inner_pixels(",
+)];
 
 /// A piece kept where its drawing begins, a pixel of the image counted where the scan has offered it, and the scan of one piece,
 /// which is private in the file, made public.
@@ -157,14 +166,16 @@ fn main() {
         return;
     };
     println!("cargo:rustc-cfg=listed");
-    let (pix2tri, edgegrad) = (folder.join("pix2tri.rs"), folder.join("edgegrad.rs"));
-    let read = |file: &Path| std::fs::read_to_string(file).expect("both files are listed");
+    let [pix2tri, edgegrad, antialias] =
+        ["pix2tri.rs", "edgegrad.rs", "antialias.rs"].map(|name| folder.join(name));
+    let read = |file: &Path| std::fs::read_to_string(file).expect("the file is listed");
     let write = |name: &str, file: String| {
         let path = out.join(name);
         std::fs::write(&path, file).expect("a changed file is written");
         path
     };
     let rules = write("edgegrad_by_the_rules.rs", by_the_rules(read(&edgegrad)));
+    let inner = write("antialias_by_the_rules.rs", with(&INNER, read(&antialias)));
     let counts = with(&WEIGHTS, with(&COUNTS, read(&pix2tri)));
     let faces = write("pix2tri_facing.rs", with(&FACING, counts.clone()));
     let counting = write("pix2tri_counting.rs", counts);
@@ -174,6 +185,8 @@ fn main() {
         module("pix2tri_facing", &faces),
         module("edgegrad", &edgegrad),
         module("edgegrad_by_the_rules", &rules),
+        module("antialias", &antialias),
+        module("antialias_by_the_rules", &inner),
     ];
     std::fs::write(out.join("listed.rs"), modules.concat()).expect("the modules are written");
 }

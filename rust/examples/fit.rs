@@ -1,13 +1,15 @@
 //! Reads how a connector housing sits, by fitting its mesh to a picture; then tells what deleting faces would do to the picture,
 //! and fits again with faces deleted that would not be missed and with the mesh cut, drawn in runs and joined, and holds every
 //! number of every iteration to the same bits. It also shows where in its face each pixel lies, which of the bodies it shows,
-//! and the housing with and without its inner skin.
+//! and the housing with and without its inner skin; and it fits by the smoothed outline of the mask alone.
 //!
 //! `cargo run --release --offline --example fit -- FOLDER` writes the pictures there (`target/fit` where none is named).
 #[path = "fit/camera.rs"]
 mod camera;
 #[path = "fit/housing.rs"]
 mod housing;
+#[path = "fit/outline.rs"]
+mod outline;
 #[path = "fit/pictures.rs"]
 mod pictures;
 #[path = "fit/png.rs"]
@@ -22,6 +24,7 @@ mod scene;
 mod skins;
 
 use housing::{CHANNELS, HOUSING, LABEL, PINS};
+use outline::{Outline, Smoothed};
 use paqelzim::RemovalPreview;
 use pose::Pose;
 use removal::Preview;
@@ -59,6 +62,7 @@ fn main() -> Result<(), Failure> {
     std::fs::create_dir_all(&folder)?;
     pictures::write(&folder, &scene, &before.0, &after.0)?;
     show_skins(&folder, &scene)?;
+    show_outline(&folder, &scene)?;
     println!("pictures in {}\n", folder.display());
     let ways = other_ways(&scene, &whole);
     println!("what deleting faces would do to the picture:");
@@ -90,6 +94,22 @@ fn show_skins(folder: &Path, scene: &Scene) -> Result<(), Failure> {
         skins.covered()
     );
     pictures::write_skins(folder, scene, &skins)
+}
+
+/// The fit by the outline alone, and one more picture: the fitted mask before and after smoothing.
+fn show_outline(folder: &Path, scene: &Scene) -> Result<(), Failure> {
+    println!("\nfitted by the smoothed outline of the mask alone, from the same start:");
+    println!("iteration  residual  seating error");
+    let outlines = outline_fit(scene)?;
+    let (before, after) = (&outlines[0], &outlines[ITERATIONS]);
+    println!(
+        "the outline's residual is {:.5} before, {:.5} after; it has {} edges, which mix {} pixels",
+        before.0.residual,
+        after.0.residual,
+        after.0.num_edges,
+        after.0.mixed().count()
+    );
+    pictures::write_smoothing(folder, scene, &after.0)
 }
 
 fn whole_fit(scene: &Scene) -> Result<Record, Failure> {
@@ -178,22 +198,49 @@ fn same_bits(scene: &Scene, way: &Way, whole: &Record) -> Result<usize, Failure>
     Ok(numbers)
 }
 
-/// Goes from the start down the gradient, by steps that Adam's rule sizes, and shows what each iteration sees, with
-/// the greatest distance of a corner of the foot from where it is in the hidden pose.
+/// Fits by the smoothed outline of the mask alone, which knows nothing of colours.
+fn outline_fit(scene: &Scene) -> Result<Vec<(Smoothed, f64)>, Failure> {
+    let outline = Outline::new(scene)?;
+    let mut record = Vec::new();
+    descend(|iteration, pose| {
+        let now = outline.seen(pose)?;
+        let error = pose.apart(&scene.hidden, &scene.housing.foot);
+        if iteration % 40 == 0 {
+            println!("{iteration:9}  {:8.5}  {error:10.3} mm", now.residual);
+        }
+        let gradient = pose.gradient(&scene.housing.points, &now.dldw_vtx2xyz);
+        record.push((now, error));
+        Ok(gradient)
+    })?;
+    Ok(record)
+}
+
+/// Fits by the whole picture, and shows what each iteration sees, with the greatest distance of a corner of the foot from where it
+/// is in the hidden pose.
 fn fit(
     scene: &Scene,
     way: &Way,
     mut shown: impl FnMut(usize, Seen, f64) -> Result<(), Failure>,
 ) -> Result<(), Failure> {
+    descend(|iteration, pose| {
+        let error = pose.apart(&scene.hidden, &scene.housing.foot);
+        let now = scene.seen(pose, way, iteration)?;
+        let gradient = pose.gradient(&scene.housing.points, &now.dldw_vtx2xyz);
+        shown(iteration, now, error)?;
+        Ok(gradient)
+    })
+}
+
+/// Goes from the start down the gradient of each iteration, by steps that Adam's rule sizes.
+fn descend(
+    mut gradient: impl FnMut(usize, &Pose) -> Result<[f64; 6], Failure>,
+) -> Result<(), Failure> {
     let mut pose = Pose::seated().moved(&START);
     let mut adam = Adam::default();
     for iteration in 0..=ITERATIONS {
-        let error = pose.apart(&scene.hidden, &scene.housing.foot);
-        let now = scene.seen(&pose, way, iteration)?;
-        let gradient = pose.gradient(&scene.housing.points, &now.dldw_vtx2xyz);
+        let gradient = gradient(iteration, &pose)?;
         let left = 1.0 - iteration as f64 / ITERATIONS as f64;
         pose = pose.moved(&adam.step(&gradient, 0.25 * left * left + 0.002));
-        shown(iteration, now, error)?;
     }
     Ok(())
 }
@@ -242,6 +289,25 @@ mod tests {
         for way in ways {
             let numbers = same_bits(&scene, &way, &whole).expect("the same bits");
             assert!(numbers > 28_000_000);
+        }
+    }
+
+    /// The fit by the outline alone ends seated too. Smoothing mixes pixels beside the mask's edge and no other, and most of those.
+    #[test]
+    fn outline_story() {
+        let scene = scene();
+        let outlines = outline_fit(&scene).expect("every call is accepted");
+        let (before, after) = (&outlines[0], &outlines[ITERATIONS]);
+        assert!(before.1 > 5.0 && after.1 < 0.05);
+        assert!(before.0.residual > 0.1 && after.0.residual < 0.01);
+        let img_w = scene.camera.img_w;
+        for (seen, _) in &outlines {
+            let mask = &seen.mask;
+            let beside = |p: usize| [p - 1, p + 1, p - img_w, p + img_w];
+            let at_edge = |p: usize| beside(p).iter().any(|&other| mask[other] != mask[p]);
+            assert!(seen.mixed().all(at_edge));
+            let inner = (img_w + 1..mask.len() - img_w - 1).filter(|&p| at_edge(p));
+            assert!(3 * seen.mixed().count() > inner.count());
         }
     }
 

@@ -7,6 +7,7 @@
 //!   a face or 4294967295 (*empty*) for each pixel, the depths `pix2depth`, and the weights `pix2weights`, three numbers a
 //!   pixel. Calls that take a layer take the slices side by side; a [`Layer`] owns all three.
 //! - A mesh is two flat slices: `tri2vtx`, three vertex numbers a face, and `vtx2xyz`, three numbers a vertex.
+//! - An outline is a slice `cedge2vtx`, two vertex numbers an edge.
 //! - A *body* is a number that a table `tri2body` gives each face, and a label picture `pix2body` each pixel.
 //! - Values are `num_vdim` numbers a vertex (`vtx2val`) or a pixel (`pix2val`). A name that begins with `dldw_` is the
 //!   gradient of what follows.
@@ -43,6 +44,7 @@ mod float_tools;
 mod labels;
 mod layer;
 mod layers;
+mod outlines;
 mod refusal;
 mod removal;
 mod values;
@@ -53,6 +55,7 @@ pub use float_tools::{hypot_f32, narrow_f64_to_f32, sqrt_f32, sqrt_f64};
 pub use labels::label_picture;
 pub use layer::Layer;
 pub use layers::{clear, join};
+pub use outlines::{antialias, bwd_antialias};
 pub use refusal::Refusal;
 pub use removal::{preview_removal, RemovalPreview};
 pub use values::{interpolate, interpolate_bwd};

@@ -9,7 +9,7 @@ pub enum Refusal {
     /// 2: are channels per pixel from 1 to 16?
     Channels = 2,
     /// 3: are vertex and face slices multiples of 3 (of 2), for at most 1,048,576 of each? A table with one number a face has
-    /// at most as many, and need not be a multiple of anything.
+    /// at most as many, and need not be a multiple of anything. Outline edges go by twos, at most 3,145,728 of them.
     MeshSize = 3,
     /// 4: has every other buffer the exact length?
     BufferLength = 4,
@@ -23,10 +23,12 @@ pub enum Refusal {
     Projection = 8,
     /// 9: has every point that the pass needs weights?
     Weights = 9,
+    /// 10: is every vertex number in every outline edge below the vertex count? Asked after 6.
+    EdgeVertex = 10,
 }
 
 impl Refusal {
-    const ALL: [Refusal; 9] = [
+    const ALL: [Refusal; 10] = [
         Refusal::ImageSize,
         Refusal::Channels,
         Refusal::MeshSize,
@@ -36,6 +38,7 @@ impl Refusal {
         Refusal::MapEntry,
         Refusal::Projection,
         Refusal::Weights,
+        Refusal::EdgeVertex,
     ];
 
     /// The question's number, which is the code that C sees.
@@ -49,7 +52,7 @@ impl Refusal {
             Refusal::ImageSize => "are width and height from 1 to 4096 (from 2 for edges)?",
             Refusal::Channels => "are channels per pixel from 1 to 16?",
             Refusal::MeshSize => {
-                "are vertex and face slices whole, for at most 1048576 vertices and faces?"
+                "are slices whole, for at most 1048576 vertices, as many faces and 3145728 edges?"
             }
             Refusal::BufferLength => "has every other buffer the exact length?",
             Refusal::FaceNumbers => "is first number plus face count at most 1048576?",
@@ -57,6 +60,7 @@ impl Refusal {
             Refusal::MapEntry => "is every map entry below the face count, or empty?",
             Refusal::Projection => "has every projection that is needed an answer?",
             Refusal::Weights => "has every point that is needed weights?",
+            Refusal::EdgeVertex => "is every vertex number of an edge below the vertex count?",
         }
     }
 
@@ -64,7 +68,7 @@ impl Refusal {
     pub fn of_code(code: u32) -> Result<(), Refusal> {
         match code {
             0 => Ok(()),
-            1..=9 => Err(Refusal::ALL[code as usize - 1]),
+            1..=10 => Err(Refusal::ALL[code as usize - 1]),
             _ => unreachable!("no call answers {code}"),
         }
     }
@@ -90,7 +94,7 @@ mod tests {
     #[test]
     fn codes_and_refusals_match() {
         assert_eq!(Refusal::of_code(0), Ok(()));
-        for code in 1..=9 {
+        for code in 1..=10 {
             let refusal = Refusal::of_code(code).unwrap_err();
             assert_eq!(refusal.code(), code);
             assert!(refusal.to_string().contains(refusal.question()));

@@ -1,15 +1,15 @@
 //! Stored cases of every call that can refuse, run again through the archive. Each file `asked` has the arguments of
-//! its cases, and `answered` the answers of the listed Rust where they are accepted, and of 01's questions elsewhere;
+//! its cases, and `answered` the answers of the listed Rust where they are accepted, and of the questions elsewhere;
 //! comparison/examples/answers.rs and pass_answers.rs wrote them. A word is eight hexadecimal digits, a slice its
 //! length and its words, and a layer three slices: map, depths and weights. A case begins with its call (1 clear, 2 draw,
-//! 3 join, 4 values, 5 values backward, 6 edge types, 7 edges backward, 8 velocities, 9 load, 10 removal, 11 labels), width and
-//! height. The answer is the code, then every buffer that the call writes, a line each, and then the load's pieces and pixels, or
-//! the pixels that a removal empties, renames and keeps.
+//! 3 join, 4 values, 5 values backward, 6 edge types, 7 edges backward, 8 velocities, 9 load, 10 removal, 11 labels, 12 smoothing,
+//! 13 smoothing backward), width and height. The answer is the code, then every buffer that the call writes, a line each, and
+//! then the load's pieces and pixels, or the pixels that a removal empties, renames and keeps.
 
 use paqelzim::{
-    bwd, clear, drawing_load, edge_gradient_and_type, interpolate, interpolate_bwd,
-    interpolate_from_edges, join, label_picture, pix2tri_by_rasterization, preview_removal, Facing,
-    Refusal,
+    antialias, bwd, bwd_antialias, clear, drawing_load, edge_gradient_and_type, interpolate,
+    interpolate_bwd, interpolate_from_edges, join, label_picture, pix2tri_by_rasterization,
+    preview_removal, Facing, Refusal,
 };
 
 fn words(text: &str) -> Vec<u32> {
@@ -183,8 +183,22 @@ fn of_labels(w: usize, h: usize, asked: &mut Asked) -> Answer {
     Answer::new(code).numbers(&picture)
 }
 
+/// Calls 12 and 13.
+fn on_outlines(call: u32, w: usize, h: usize, asked: &mut Asked) -> Answer {
+    let m = asked.matrix();
+    let (edges, xyz, map) = (asked.numbers(), asked.floats(), asked.numbers());
+    let (val, mut pixels) = (asked.floats(), asked.floats());
+    if call == 12 {
+        let code = antialias(&edges, &xyz, &m, w, h, &map, &val, &mut pixels);
+        return Answer::new(code).floats(&pixels);
+    }
+    let mut dxyz = asked.floats();
+    let code = bwd_antialias(&edges, &xyz, &mut dxyz, &m, w, h, &val, &pixels, &map);
+    Answer::new(code).floats(&dxyz)
+}
+
 /// How many cases of each call there are.
-type Cases = [usize; 12];
+type Cases = [usize; 14];
 
 /// Runs every case of a file and compares its answer line by line.
 fn replay(asked: &str, answered: &str, cases: Cases) {
@@ -201,7 +215,8 @@ fn replay(asked: &str, answered: &str, cases: Cases) {
             8 => on_a_grid(w, h, &mut asked),
             9 => of_load(w, h, &mut asked),
             10 => of_removal(w, h, &mut asked),
-            _ => of_labels(w, h, &mut asked),
+            11 => of_labels(w, h, &mut asked),
+            _ => on_outlines(call, w, h, &mut asked),
         };
         for ours in answer.0 {
             let stored = words(lines.next().expect("an answer"));
@@ -217,7 +232,7 @@ fn layers_as_stored() {
     replay(
         include_str!("stored/layers.asked"),
         include_str!("stored/layers.answered"),
-        [0, 42, 304, 47, 0, 0, 0, 0, 0, 0, 0, 0],
+        [0, 42, 304, 47, 0, 0, 0, 0, 0, 0, 0, 0, 0, 0],
     );
 }
 
@@ -226,7 +241,7 @@ fn passes_as_stored() {
     replay(
         include_str!("stored/passes.asked"),
         include_str!("stored/passes.answered"),
-        [0, 0, 0, 0, 80, 80, 80, 80, 80, 0, 0, 0],
+        [0, 0, 0, 0, 80, 80, 80, 80, 80, 0, 0, 0, 0, 0],
     );
 }
 
@@ -235,7 +250,7 @@ fn load_as_stored() {
     replay(
         include_str!("stored/load.asked"),
         include_str!("stored/load.answered"),
-        [0, 0, 0, 0, 0, 0, 0, 0, 0, 150, 0, 0],
+        [0, 0, 0, 0, 0, 0, 0, 0, 0, 150, 0, 0, 0, 0],
     );
 }
 
@@ -244,7 +259,7 @@ fn removal_as_stored() {
     replay(
         include_str!("stored/removal.asked"),
         include_str!("stored/removal.answered"),
-        [0, 0, 0, 0, 0, 0, 0, 0, 0, 0, 90, 0],
+        [0, 0, 0, 0, 0, 0, 0, 0, 0, 0, 90, 0, 0, 0],
     );
 }
 
@@ -253,6 +268,15 @@ fn labels_as_stored() {
     replay(
         include_str!("stored/labels.asked"),
         include_str!("stored/labels.answered"),
-        [0, 0, 0, 0, 0, 0, 0, 0, 0, 0, 0, 60],
+        [0, 0, 0, 0, 0, 0, 0, 0, 0, 0, 0, 60, 0, 0],
+    );
+}
+
+#[test]
+fn outlines_as_stored() {
+    replay(
+        include_str!("stored/outlines.asked"),
+        include_str!("stored/outlines.answered"),
+        [0, 0, 0, 0, 0, 0, 0, 0, 0, 0, 0, 0, 40, 40],
     );
 }

@@ -2,7 +2,7 @@
 // out. No function here is a public call.
 #![tactic(auto)]
 
-ghost use Rattle.std.specs.Prelude.{◌≡◌, ◌+◌, ◌≤◌, ◌<◌};
+ghost use Rattle.std.specs.Prelude.{◌≡◌, ◌+◌, ◌-◌, ◌≤◌, ◌<◌};
 ghost use Rattle.geometry.specs.Arith.{floats};
 ghost use Rattle.geometry.specs.Answer.{point2};
 ghost use Rattle.pixels.specs.Answer.{axis_of};
@@ -221,6 +221,32 @@ pub fn pair_axis(e: Ends) -> Axis
     }
 }
 
+// The pixel before p along an axis.
+pub fn before(axis: Axis, p: Pixel) -> Pixel
+    requires right { axis.right ≤ p.x }
+    requires down { axis.down ≤ p.y }
+    ensures column { result.x ≡ p.x - axis.right }
+    ensures row { result.y ≡ p.y - axis.down }
+{
+    Pixel {
+        x: p.x - axis.right,
+        y: p.y - axis.down,
+    }
+}
+
+// The pixel after p.
+pub fn after(axis: Axis, p: Pixel) -> Pixel
+    requires columns { p.x + axis.right < 4096 }
+    requires rows { p.y + axis.down < 4096 }
+    ensures column { result.x ≡ p.x + axis.right }
+    ensures row { result.y ≡ p.y + axis.down }
+{
+    Pixel {
+        x: p.x + axis.right,
+        y: p.y + axis.down,
+    }
+}
+
 // Number k of a pixel's four pairs: to its neighbour before and back, and to the one after and back.
 #[tactic(auto, unfolding(crate::specs::Neighbours::neighbour_pair))]
 pub fn neighbour_pair(axis: Axis, p: Pixel, k: usize) -> NeighbourPair
@@ -228,32 +254,17 @@ pub fn neighbour_pair(axis: Axis, p: Pixel, k: usize) -> NeighbourPair
     requires down { axis.down ≤ p.y }
     requires columns { p.x + axis.right < 4096 }
     requires rows { p.y + axis.down < 4096 }
-    ensures { pair_of result ≡ neighbours.neighbour_pair (axis_of axis) (pixel_of p) k }
+    ensures pair { pair_of result ≡ neighbours.neighbour_pair (axis_of axis) (pixel_of p) k }
+    ensures first_column { result.first.x ≤ p.x + axis.right }
+    ensures first_row { result.first.y ≤ p.y + axis.down }
+    ensures second_column { result.second.x ≤ p.x + axis.right }
+    ensures second_row { result.second.y ≤ p.y + axis.down }
 {
-    let before = Pixel {
-        x: p.x - axis.right,
-        y: p.y - axis.down,
+    let (first, second) = match k {
+        0 => (p, before(axis, p)),
+        1 => (before(axis, p), p),
+        2 => (p, after(axis, p)),
+        _ => (after(axis, p), p),
     };
-    let after = Pixel {
-        x: p.x + axis.right,
-        y: p.y + axis.down,
-    };
-    match k {
-        0 => NeighbourPair {
-            first: p,
-            second: before,
-        },
-        1 => NeighbourPair {
-            first: before,
-            second: p,
-        },
-        2 => NeighbourPair {
-            first: p,
-            second: after,
-        },
-        _ => NeighbourPair {
-            first: after,
-            second: p,
-        },
-    }
+    NeighbourPair { first, second }
 }

@@ -1,14 +1,18 @@
 -- The theorems at the rational numbers: the example of 01 whose pixel 0 is 7, exactly, and its gradients; and the same pixel's weights and depth as drawn.
-use Rattle.std.specs.Prelude.{ℕ, zero, suc, ◌<◌, ◌≡◌, refl, List, [], ◌∷◌, get_or, replicate, pos, negsuc}
+-- And an outline edge that smooths a pixel.
+use Rattle.std.specs.Prelude.{ℕ, zero, suc, ◌<◌, ◌≡◌, refl, true, List, [], ◌∷◌, get_or, replicate, pos, negsuc}
 use Rattle.std.proofs.Common.{sym, ◌∙◌, ap, subst, lit≤}
 use Rattle.std.proofs.Math.Option.{Option, none, some, some-injective, some-ne-none}
 use Rattle.geometry.specs.Vector.{Vec2, vec2, Vec3, vec3, Weights, weights, Triangle, triangle}
-use Rattle.geometry.specs.Formula.{sum_of, cross2, areas, total, over_total, blend}
+use Rattle.geometry.specs.Formula.{sum_of, cross2, areas, total, over_total, blend, row, over as over_w}
 use Rattle.rays.specs.Space.{Ray, ray, minus3, dot3, cross3, scaled3}
 use Rattle.rays.specs.Plane.{normal}
 use Rattle.rays_bwd.specs.Backward.{framed, frame_of, meets_u, meets_v, weighted, gradient_on, gradient, shares, shared, backward_on, plane_backward}
 use Rattle.meshes.specs.Mesh.{Face, face}
 use Rattle.pixel_gradients.specs.Gather.{gathered}
+use Rattle.jacobians.specs.Formula.{project_untested, jacobian_entry, jacobian_column, jacobian_at, jacobian}
+use Rattle.outlines.specs.Formula.{Ends, Crossing, minus2, perp_dot, scaled2, crossing_from, crossing_of, crossing_gradient, end_shares, crossing_backward, mixed}
+use Rattle.antialias_bwd.specs.Formula.{pulled_back}
 use Rattle.truth.specs.Laws.{Invertible}
 use Rattle.truth.specs.Solve.{same3, ◌∷₃◌}
 use Rattle.truth.specs.Rationals.{ℚ, over, alike, rationals, rational_laws, divides_by}
@@ -24,6 +28,8 @@ use Rattle.truth.specs.Meeting.{D, n_dot_n}
 use Rattle.truth.proofs.Meeting.{weights_agree}
 use Rattle.truth.specs.Weights.{area_sum, weights_in}
 use Rattle.truth.proofs.Weights.{weights_depth_lem}
+use Rattle.truth.specs.Crossing.{part, seen, edge_seen, outline_inner, outline_moves}
+use Rattle.truth.proofs.Crossing.{smoothed_true}
 
 -- n and -(n + 1)
 abbrev whole : ℕ → ℚ
@@ -167,3 +173,68 @@ depth_is_7 =
     weights_depth_lem rationals rational_laws centre corner0 corner1 corner2 weighs (whole 2) (less 3) (whole 8) (whole 0) (whole 8) (whole 16)
     (alike _ _ refl) (alike _ _ refl) (alike _ _ refl)
     ∙ alike _ _ refl
+
+-- ---- smoothing: an outline edge crosses the way from the centre of pixel 0 of 2 × 1 to that of pixel 1, a quarter along it and a third along the edge
+
+abbrev half : ℚ
+half = over (pos 1) (pos 2) tt
+
+abbrev next : Vec2 ℚ
+next = vec2 (over (pos 3) (pos 2) tt) half
+
+-- (x, y, z) is seen at (x/z, y/z)
+abbrev lens : ℕ → ℚ
+lens k =
+    let o = whole 0 in
+    let l = whole 1 in
+    get_or (l ∷ o ∷ o ∷ o ∷ o ∷ l ∷ o ∷ o ∷ o ∷ o ∷ l ∷ l ∷ []) k o
+
+-- they are seen at (7/4, 3/2) and (1/4, 0)
+
+abbrev vertex0 : Vec3 ℚ
+vertex0 = vec3 (over (pos 7) (pos 2) tt) (whole 3) (whole 2)
+
+abbrev vertex1 : Vec3 ℚ
+vertex1 = vec3 quarter (whole 0) (whole 1)
+
+abbrev outline : Ends ℚ
+outline = edge_seen rationals lens vertex0 vertex1
+
+abbrev meeting : Crossing ℚ
+meeting = crossing_of rationals centre next outline
+
+pub crossing_is : (meeting.rc ≡ quarter) × (meeting.re ≡ over (pos 1) (pos 3) tt)
+unfolding edge_seen seen project_untested over_w row crossing_of crossing_from minus2 perp_dot
+crossing_is = (alike _ _ refl, alike _ _ refl)
+
+d_is : meeting.d ≡ over (pos 3) (pos 2) tt
+unfolding edge_seen seen project_untested over_w row crossing_of crossing_from minus2 perp_dot
+d_is = alike _ _ refl
+
+meeting_divides : Invertible rationals meeting.d
+meeting_divides = divides_by (pos 3) (pos 2) tt d_is tt
+
+-- pixel 0 shows 6 and pixel 1, which is empty, 0: pixel 0 becomes (1/2 + 1/4) 6
+pub smoothed_is : mixed rationals (part rationals true half meeting.rc) (whole 6) (whole 0) ≡ over (pos 9) (pos 2) tt
+unfolding edge_seen seen project_untested over_w row crossing_of crossing_from minus2 perp_dot mixed part
+smoothed_is = alike _ _ refl
+
+-- of a crossing's pixel with an incoming gradient of 1
+abbrev dldr : ℚ
+dldr = rationals.mul (whole 1) (rationals.sub (whole 6) (whole 0))
+
+-- the shares (2, −2) and (4, −4) in the picture
+pub vertices_gain : (let g = crossing_backward rationals outline meeting dldr in
+    (pulled_back rationals (jacobian rationals lens vertex0) g.q0 ≡ vec3 (whole 1) (less 0) (over (negsuc 0) (pos 4) tt))
+    × (pulled_back rationals (jacobian rationals lens vertex1) g.q1 ≡ vec3 (whole 4) (less 3) (less 0)))
+unfolding edge_seen seen project_untested over_w row crossing_of crossing_from minus2 perp_dot crossing_backward crossing_gradient end_shares scaled2 pulled_back jacobian jacobian_at jacobian_column jacobian_entry
+vertices_gain = (same3 (alike _ _ refl) (alike _ _ refl) (alike _ _ refl), same3 (alike _ _ refl) (alike _ _ refl) (alike _ _ refl))
+
+-- so these are the derivatives, along any movement of the two vertices
+pub smoothing_is_true : (m0 m1 : Vec3 ℚ)
+    → rationals.mul (whole 1)
+    (mixed (duals rationals) (part (duals rationals) true (still rationals half) (outline_moves rationals lens centre next vertex0 vertex1 m0 m1).rc)
+    (still rationals (whole 6)) (still rationals (whole 0))).eps
+    ≡ outline_inner rationals lens centre next vertex0 vertex1 dldr m0 m1
+smoothing_is_true m0 m1 =
+    smoothed_true rationals rational_laws lens centre next vertex0 vertex1 meeting_divides m0 m1 true half (whole 6) (whole 0) (whole 1)

@@ -10,6 +10,9 @@ pub mod Loss
 pub mod Pass
 pub mod Pulled
 pub mod Projection
+pub mod Crossed
+pub mod Mixed
+pub mod Crossing
 pub mod Weights
 pub mod Ties
 pub mod Examples

@@ -9,6 +9,9 @@
 --   Loss        `loss_true`                   what a pixel adds to vertices and values is the derivative of its part of the loss
 --   Pass        `pass_true`                   so of every pixel, into lent buffers
 --   Projection  `pull_true`, `edge_true`      `jacobian_transform`, and what an edge gives the corners of a face
+--   Crossing    `crossing_meets`              an outline edge and the way between two centres meet in the crossing
+--   Crossing    `crossing_true`               its backward formula is the derivative of its place on that way, rc
+--   Crossing    `outline_true`, `smoothed_true`  so of the edge's vertices, and of the pixel that is smoothed
 --   Weights     `weights-sum`, `weights_place`, `weights_depth_lem`  the corner weights of drawing: they sum to 1, place the pixel and give the depth
 --   Ties        at f32 these formulas are what `interpolate` writes, what `interpolate_bwd` and `bwd` add, and the weights of drawing
 --   Rationals   the laws hold of the rational numbers (in specs/); Examples computes one
@@ -18,6 +21,8 @@
 --   the map is held fixed, and rays do not move with the vertices: where the face that a pixel shows changes there is no derivative;
 --   the `dldr` of an edge, and which faces an edge moves, are a model of such changes and not the derivative of `interpolate`: of the edges' pass only
 --   the way from a gradient in the image to the corners is a derivative (`edge_true`), the weights being held fixed;
+--   a smoothed pixel's theorem is of one crossing, its two values held: where two crossings write one pixel, the later one stands, and nothing is said of
+--   which crossings there are while the vertices move;
 --   intersections are not covered: nothing is said of the coefficients and normals that they use.
 
 -- what is asked of an arithmetic, and movement
@@ -32,6 +37,7 @@ pub mod Meeting
 pub mod Shares
 pub mod Pass
 pub mod Projection
+pub mod Crossing
 pub mod Weights
 pub mod Ties
 -- an exact arithmetic with division

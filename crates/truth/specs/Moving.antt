@@ -1,11 +1,14 @@
 -- Points that move: each coordinate with its movement at ε. Rays and incoming gradients do not move.
 use Rattle.std.specs.Prelude.{ℕ}
 use Rattle.geometry.specs.Arith.{Arith}
-use Rattle.geometry.specs.Vector.{Vec3, vec3, Weights, weights, Triangle, triangle}
+use Rattle.geometry.specs.Vector.{Vec2, vec2, Vec3, vec3, Weights, weights, Triangle, triangle}
 use Rattle.rays.specs.Space.{Ray, ray, dot3}
 use Rattle.truth.specs.Dual.{Dual, dual, still}
 
 -- a point and its movement
+abbrev pub moving2 : {A : Type 0} → Vec2 A → Vec2 A → Vec2 (Dual A)
+moving2 a m = vec2 (dual a.x m.x) (dual a.y m.y)
+
 abbrev pub moving3 : {A : Type 0} → Vec3 A → Vec3 A → Vec3 (Dual A)
 moving3 a m = vec3 (dual a.x m.x) (dual a.y m.y) (dual a.z m.z)
 
@@ -20,6 +23,9 @@ module _ {A : Type 0} (R : Arith A) where
   open R use {add as ◌⊕◌}
 
   infixl 6 ◌⊕◌
+  abbrev pub still2 : Vec2 A → Vec2 (Dual A)
+  still2 a = vec2 (still R a.x) (still R a.y)
+
   abbrev pub still3 : Vec3 A → Vec3 (Dual A)
   still3 a = vec3 (still R a.x) (still R a.y) (still R a.z)
 

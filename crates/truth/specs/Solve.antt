@@ -9,7 +9,7 @@ use Rattle.std.proofs.lemmas.Bool.{false≢true}
 use mathlib.Core.List.{List, [], ◌∷◌, map}
 use Rattle.std.proofs.Math.Dec.{compare_is_eq}
 use Rattle.geometry.specs.Arith.{Arith}
-use Rattle.geometry.specs.Vector.{Vec3, vec3}
+use Rattle.geometry.specs.Vector.{Vec2, vec2, Vec3, vec3}
 use Rattle.truth.specs.Laws.{Laws}
 use Rattle.truth.specs.Ring.{zero-add, add_left_comm, neg-neg, neg-zero, neg-add, mul-zero, zero-mul, add-mul, mul-neg, neg-mul, sub_self, same_of_sub}
 
@@ -49,9 +49,17 @@ from R xs n = get_or xs n R.zero
 pub same3 : {A : Type 0} {a b : Vec3 A} → a.x ≡ b.x → a.y ≡ b.y → a.z ≡ b.z → a ≡ b
 same3 p q r = λ i. vec3 (p i) (q i) (r i)
 
+infixr 67 ◌∷₂◌
 infixr 67 ◌∷₃◌
+abbrev pub ◌∷₂◌ : {A : Type 0} → Vec2 A → List A → List A
+a ∷₂ xs = a.x ∷ a.y ∷ xs
+
 abbrev pub ◌∷₃◌ : {A : Type 0} → Vec3 A → List A → List A
 a ∷₃ xs = a.x ∷ a.y ∷ a.z ∷ xs
+
+-- variables n and n + 1
+abbrev pub var2 : ℕ → Vec2 Expr
+var2 n = vec2 (var n) (var (n + 1))
 
 -- variables n, n + 1 and n + 2
 abbrev pub var3 : ℕ → Vec3 Expr

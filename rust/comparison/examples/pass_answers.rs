@@ -1,5 +1,5 @@
-//! Writes the stored cases rust/tests/stored/passes: `asked`, the arguments of each call, and `answered`, its answer,
-//! by the listed Rust where they are accepted, and by 01's questions (`expected`) elsewhere. Run at the root of the
+//! Writes the stored cases rust/tests/stored/passes and outlines: `asked`, the arguments of each call, and `answered`, its answer,
+//! by the listed Rust where they are accepted, and by the questions (`expected`) elsewhere. Run at the root of the
 //! repository by `cargo run --release --offline --manifest-path rust/Cargo.toml -p comparison --example
 //! pass_answers`. A number after `--` gives another count for each call than 80.
 
@@ -14,15 +14,20 @@ fn main() -> std::io::Result<()> {
     let mut cases = comparison::stored::Cases::default();
     passes::over_a_map(&mut cases, count);
     passes::from_edges(&mut cases, count);
-    cases.write("passes")
+    cases.write("passes")?;
+    let mut cases = comparison::stored::Cases::default();
+    passes::of_outlines(&mut cases, count / 2);
+    cases.write("outlines")
 }
 
 #[cfg(listed)]
 mod passes {
+    use comparison::crossings::crossings;
     use comparison::expected::{
-        bwd_code_to_8, edge_gradient_and_type_code, interpolate_bwd_code, interpolate_code,
-        interpolate_from_edges_code,
+        antialias_code, bwd_antialias_code, bwd_code_to_8, edge_gradient_and_type_code,
+        interpolate_bwd_code, interpolate_code, interpolate_from_edges_code,
     };
+    use comparison::outlines::{outline, Outline};
     use comparison::pass::{pass, velocities, Pass};
     use comparison::reference;
     use comparison::stored::{answer_bytes, answer_floats, bytes, floats, line, numbers, Cases};
@@ -172,5 +177,56 @@ mod passes {
             let head = [8, v.img_w as u32, v.img_h as u32];
             cases.add(&head, &asked, code, &[answer_floats(&after)]);
         }
+    }
+    /// Calls 12 and 13, each of the same arguments; of eight one that is refused. Those accepted have a crossing.
+    pub fn of_outlines(cases: &mut Cases, count: usize) {
+        let mut left = [count * 7 / 8, count / 8];
+        for outline in (0..).map(outline).filter(outline_fits) {
+            if left == [0; 2] {
+                break;
+            }
+            let codes = [antialias_code(&outline), bwd_antialias_code(&outline)];
+            let kind = usize::from(codes != [0; 2]);
+            if left[kind] == 0 || kind == 0 && crossings(&outline).is_empty() {
+                continue;
+            }
+            left[kind] -= 1;
+            add_outline(cases, &outline, codes);
+        }
+    }
+
+    fn outline_fits(outline: &Outline) -> bool {
+        let sides = [outline.img_w, outline.img_h];
+        sides.iter().all(|&side| side <= 4097)
+            && outline.pix2tri.len() <= 2 * PIXELS
+            && outline.vtx2xyz.len().max(outline.cedge2vtx.len()) <= ROOM
+    }
+
+    fn add_outline(cases: &mut Cases, outline: &Outline, codes: [u32; 2]) {
+        let ran = "the listed Rust runs where the questions are answered yes";
+        let mut left = outline.clone();
+        if codes[0] == 0 {
+            left.pix2vout = reference::antialias(outline).expect(ran);
+        }
+        if codes[1] == 0 {
+            left.dldw_vtx2xyz = reference::bwd_antialias(outline).expect(ran);
+        }
+        let common = || {
+            vec![
+                line(outline.transform_world2pix.map(f32::to_bits)),
+                numbers(&outline.cedge2vtx),
+                floats(&outline.vtx2xyz),
+                numbers(&outline.pix2tri),
+                floats(&outline.pix2val),
+            ]
+        };
+        let head = |call: u32| [call, outline.img_w as u32, outline.img_h as u32];
+        let forward = [common(), vec![floats(&outline.pix2vout)]].concat();
+        let smoothed = [answer_floats(&left.pix2vout)];
+        cases.add(&head(12), &forward, codes[0], &smoothed);
+        let gradients = [&outline.dldw_pix2val, &outline.dldw_vtx2xyz].map(|s| floats(s));
+        let backward = [common(), gradients.to_vec()].concat();
+        let sums = [answer_floats(&left.dldw_vtx2xyz)];
+        cases.add(&head(13), &backward, codes[1], &sums);
     }
 }

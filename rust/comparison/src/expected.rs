@@ -1,7 +1,8 @@
-//! The questions of 01, clearing and joining, of the layer that 02 gives weights (Point 9), and the label picture (Point 10),
-//! read into Rust a second time.
+//! The questions of 01 and of outline smoothing (02, Point 1), clearing and joining, of the layer that 02 gives weights (Point 9),
+//! and the label picture (Point 10), read into Rust a second time.
 use crate::labels::Labels;
 use crate::layer::{Cell, Layer};
+use crate::outlines::{Outline, MOST_EDGES};
 use crate::pass::{Pass, Velocities};
 use crate::removal::Removal;
 use crate::scene::{Scene, EMPTY, MOST};
@@ -215,6 +216,41 @@ pub fn interpolate_from_edges_code(v: &Velocities) -> u32 {
                 && v.vtx2velo.len() == v.vtx2xy.len()
         }),
     ])
+}
+
+/// The questions of outline smoothing, with the lengths that 4 asks.
+fn outline_code(outline: &Outline, exact: &dyn Fn(usize) -> bool) -> u32 {
+    let edges = &outline.cedge2vtx;
+    let vertices = outline.vtx2xyz.as_chunks::<3>().0;
+    let m = &outline.transform_world2pix;
+    let there = |v: &u32| transform_homogeneous(m, &vertices[*v as usize]).is_some();
+    first_no(&[
+        (1, &|| size_is_asked(outline.img_w, outline.img_h)),
+        (3, &|| {
+            edges.len() % 2 == 0 && edges.len() / 2 <= MOST_EDGES as usize
+        }),
+        (3, &|| mesh_is_whole(&[], &outline.vtx2xyz)),
+        (4, &|| exact(outline.img_w * outline.img_h)),
+        (10, &|| faces_name_vertices(edges, &outline.vtx2xyz)),
+        (8, &|| edges.iter().all(there)),
+    ])
+}
+
+pub fn antialias_code(outline: &Outline) -> u32 {
+    outline_code(outline, &|pixels| {
+        outline.pix2tri.len() == pixels
+            && outline.pix2val.len() == pixels
+            && outline.pix2vout.len() == pixels
+    })
+}
+
+pub fn bwd_antialias_code(outline: &Outline) -> u32 {
+    outline_code(outline, &|pixels| {
+        outline.pix2val.len() == pixels
+            && outline.dldw_pix2val.len() == pixels
+            && outline.pix2tri.len() == pixels
+            && outline.dldw_vtx2xyz.len() == outline.vtx2xyz.len()
+    })
 }
 
 /// A clear layer of so many pixels.

@@ -7,12 +7,14 @@ include!(concat!(env!("OUT_DIR"), "/listed.rs"));
 #[cfg(listed)]
 pub mod reference;
 
+pub mod crossings;
 pub mod cut;
 pub mod expected;
 pub mod labels;
 pub mod layer;
 pub mod margins;
 pub mod meshes;
+pub mod outlines;
 pub mod pairs;
 pub mod pass;
 pub mod random;

@@ -157,7 +157,7 @@ pub fn patches(random: &mut Random, width: usize, pixels: usize, faces: usize) -
     map
 }
 
-fn identity() -> [f32; 16] {
+pub fn identity() -> [f32; 16] {
     std::array::from_fn(|i| if i % 5 == 0 { 1.0 } else { 0.0 })
 }
 
@@ -183,7 +183,7 @@ fn ndc2world(random: &mut Random) -> [f32; 16] {
 }
 
 /// The scene's matrix, and then from the cube to pixels.
-fn world2pix(scene: &Scene) -> [f32; 16] {
+pub fn world2pix(scene: &Scene) -> [f32; 16] {
     let m = &scene.transform_world2ndc;
     let (w, h) = (scene.img_w as f32 * 0.5, scene.img_h as f32 * 0.5);
     std::array::from_fn(|i| {

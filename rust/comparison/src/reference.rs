@@ -1,6 +1,7 @@
 //! The listed calls, over flat slices; the drawing with a first number, and with weights beside the depths.
 use crate::expected::cleared;
 use crate::layer::Layer;
+use crate::outlines::Outline;
 use crate::pass::{Pass, Velocities};
 use crate::removal::Removal;
 use crate::scene::{Scene, EMPTY};
@@ -239,6 +240,75 @@ pub fn interpolate_from_edges(v: &Velocities) -> Option<Vec<f32>> {
         );
         vtx2velo
     })
+}
+
+/// `antialias` of the unchanged file, or of the one that passes the image border over.
+type Antialias =
+    fn(&[[u32; 2]], &[[f32; 3]], &[f32; 16], (usize, usize), &[u32], &[f32], &mut [f32]);
+
+fn antialias_by(antialias: Antialias, outline: &Outline) -> Option<Vec<f32>> {
+    unless_it_panics(|| {
+        let mut pix2vout = outline.pix2vout.clone();
+        antialias(
+            outline.cedge2vtx.as_chunks::<2>().0,
+            outline.vtx2xyz.as_chunks::<3>().0,
+            &outline.transform_world2pix,
+            (outline.img_w, outline.img_h),
+            &outline.pix2tri,
+            &outline.pix2val,
+            &mut pix2vout,
+        );
+        pix2vout
+    })
+}
+
+/// `pix2vout` afterwards.
+pub fn antialias(outline: &Outline) -> Option<Vec<f32>> {
+    antialias_by(crate::antialias_by_the_rules::antialias, outline)
+}
+
+/// The same by the file as it is listed.
+pub fn antialias_as_listed(outline: &Outline) -> Option<Vec<f32>> {
+    antialias_by(crate::antialias::antialias, outline)
+}
+
+/// `bwd_antialias` of either file.
+type BwdAntialias = fn(
+    &[[u32; 2]],
+    &[[f32; 3]],
+    &mut [[f32; 3]],
+    &[f32; 16],
+    (usize, usize),
+    &[f32],
+    &[f32],
+    &[u32],
+);
+
+fn bwd_antialias_by(bwd_antialias: BwdAntialias, outline: &Outline) -> Option<Vec<f32>> {
+    unless_it_panics(|| {
+        let mut dldw_vtx2xyz = outline.dldw_vtx2xyz.clone();
+        bwd_antialias(
+            outline.cedge2vtx.as_chunks::<2>().0,
+            outline.vtx2xyz.as_chunks::<3>().0,
+            dldw_vtx2xyz.as_chunks_mut::<3>().0,
+            &outline.transform_world2pix,
+            (outline.img_w, outline.img_h),
+            &outline.pix2val,
+            &outline.dldw_pix2val,
+            &outline.pix2tri,
+        );
+        dldw_vtx2xyz
+    })
+}
+
+/// `dldw_vtx2xyz` afterwards.
+pub fn bwd_antialias(outline: &Outline) -> Option<Vec<f32>> {
+    bwd_antialias_by(crate::antialias_by_the_rules::bwd_antialias, outline)
+}
+
+/// The same by the file as it is listed.
+pub fn bwd_antialias_as_listed(outline: &Outline) -> Option<Vec<f32>> {
+    bwd_antialias_by(crate::antialias::bwd_antialias, outline)
 }
 
 /// `pix2tri_by_rasterization` of one of the files.

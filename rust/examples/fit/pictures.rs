@@ -1,5 +1,6 @@
 //! The pictures that the example writes, each pixel shown as a square of several.
 use crate::housing::CHANNELS;
+use crate::outline::Smoothed;
 use crate::png;
 use crate::scene::{Scene, Seen, BACKGROUND, EMPTY};
 use crate::skins::Skins;
@@ -39,16 +40,43 @@ pub fn write(
 
 /// All faces to the left, front pieces only to the right.
 pub fn write_skins(folder: &Path, scene: &Scene, skins: &Skins) -> Result<(), Box<dyn Error>> {
-    let width = CHANNELS * scene.camera.img_w;
     let [all, front] = skins.values(scene)?;
-    let rows = all.chunks(width).zip(front.chunks(width));
+    write_beside(&folder.join("facing.png"), scene.camera.img_w, &all, &front)?;
+    Ok(())
+}
+
+/// The mask before smoothing to the left, after to the right.
+pub fn write_smoothing(
+    folder: &Path,
+    scene: &Scene,
+    seen: &Smoothed,
+) -> Result<(), Box<dyn Error>> {
+    let [before, after] = [&seen.mask, &seen.smoothed].map(|mask| grey(mask));
+    write_beside(
+        &folder.join("smoothing.png"),
+        scene.camera.img_w,
+        &before,
+        &after,
+    )?;
+    Ok(())
+}
+
+/// Two pictures side by side.
+fn write_beside(path: &Path, img_w: usize, left: &[f32], right: &[f32]) -> std::io::Result<()> {
+    let rows = left
+        .chunks(CHANNELS * img_w)
+        .zip(right.chunks(CHANNELS * img_w));
     let values: Vec<f32> = rows
         .flat_map(|(left, right)| [left, right].concat())
         .collect();
-    let img_w = 2 * scene.camera.img_w;
-    let rgb = squares(img_w, &coloured(&values));
-    png::write(&folder.join("facing.png"), SQUARE * img_w, &rgb)?;
-    Ok(())
+    let rgb = squares(2 * img_w, &coloured(&values));
+    png::write(path, 2 * SQUARE * img_w, &rgb)
+}
+
+/// From the background to white.
+fn grey(mask: &[f32]) -> Vec<f32> {
+    let colour = |&share: &f32| BACKGROUND.map(|dark| share + (1. - share) * dark);
+    mask.iter().flat_map(colour).collect()
 }
 
 /// Where in its face each pixel lies, as red, green and blue: the nearer to the first, second or third corner, the purer. The

@@ -87,7 +87,7 @@ fn turned(p: Vec3, by: Vec3) -> Vec3 {
     std::array::from_fn(|k| p[k] * cos + side[k] * sin + axis[k] * along)
 }
 
-fn dot(a: Vec3, b: Vec3) -> f64 {
+pub fn dot(a: Vec3, b: Vec3) -> f64 {
     a[0] * b[0] + a[1] * b[1] + a[2] * b[2]
 }
 

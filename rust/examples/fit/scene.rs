@@ -92,7 +92,7 @@ impl Scene {
             self.drawn(&tri2vtx, &vtx2xyz, 0, Facing::All)?
         };
         let pix2val = self.values(&tri2vtx, &vtx2xyz, layer.map())?;
-        let (residual, dldw_pix2val) = self.difference(&pix2val);
+        let (residual, dldw_pix2val) = difference(&pix2val, &self.target);
         let mut seen = Seen {
             pix2body: layer.label_picture(&tri2body)?,
             layer,
@@ -209,22 +209,18 @@ impl Scene {
         }
         Ok(a)
     }
+}
 
-    /// The residual, and the gradient of half the mean square.
-    fn difference(&self, pix2val: &[f32]) -> (f64, Vec<f32>) {
-        let count = pix2val.len() as f32;
-        let difference: Vec<f32> = pix2val
-            .iter()
-            .zip(&self.target)
-            .map(|(p, t)| p - t)
-            .collect();
-        let square: f64 = difference
-            .iter()
-            .map(|&d| f64::from(d) * f64::from(d))
-            .sum();
-        let residual = (square / f64::from(count)).sqrt();
-        (residual, difference.iter().map(|d| d / count).collect())
-    }
+/// The residual, and the gradient of half the mean square.
+pub fn difference(pix2val: &[f32], target: &[f32]) -> (f64, Vec<f32>) {
+    let count = pix2val.len() as f32;
+    let difference: Vec<f32> = pix2val.iter().zip(target).map(|(p, t)| p - t).collect();
+    let square: f64 = difference
+        .iter()
+        .map(|&d| f64::from(d) * f64::from(d))
+        .sum();
+    let residual = (square / f64::from(count)).sqrt();
+    (residual, difference.iter().map(|d| d / count).collect())
 }
 
 impl Seen {

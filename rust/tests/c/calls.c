@@ -182,6 +182,95 @@ static void edges_backward(void) {
     expect(sums[1] == 0.0f && sums[4] == 0.0f && sums[8] == 0.0f, "nothing along y and z");
 }
 
+/* 3 x 3, a face in the left and middle columns, value 1, and an edge. */
+static const uint32_t left_map[9] = {0, 7, 4294967295u, 0, 7, 4294967295u, 0, 7, 4294967295u};
+static const float left_values[9] = {1, 1, 0, 1, 1, 0, 1, 1, 0};
+static const float of_two[9] = {2, 2, 2, 2, 2, 2, 2, 2, 2};
+
+/* The lengths are those of the edge, its ends, the map, the values, the smoothed values or their gradients, and the sums. The one
+ * with that number is told one short; 6 is none of them. */
+typedef struct {
+    uint32_t edge[2];
+    float ends[6];
+    size_t img_w;
+    int one_short;
+} Outline;
+
+static uint32_t smoothed(const Outline *o, const float *matrix, float *pixels) {
+    size_t n[7] = {2, 6, 9, 9, 9, 6, 1};
+    n[o->one_short] -= 1;
+    return paqelzim_antialias(o->edge, n[0], o->ends, n[1], matrix, o->img_w, 3, left_map, n[2], left_values, n[3], pixels, n[4]);
+}
+
+static uint32_t smoothed_back(const Outline *o, const float *matrix, float *sums) {
+    size_t n[7] = {2, 6, 9, 9, 9, 6, 1};
+    n[o->one_short] -= 1;
+    return paqelzim_bwd_antialias(o->edge, n[0], o->ends, n[1], sums, n[5], matrix, o->img_w, 3, left_values, n[3], of_two, n[4],
+                                  left_map, n[2]);
+}
+
+/* Straight down the picture at x. */
+static Outline outline(float x) {
+    Outline o = {{0, 1}, {0, 0, 0, 0, 3, 0}, 3, 6};
+    o.ends[0] = o.ends[3] = x;
+    return o;
+}
+
+/* Of the nine pixels one is off the border. It gets that value, or none where it is 0; and each end gains that gradient along x. */
+static void smooth(float x, float value, float gradient, const char *what) {
+    Outline o = outline(x);
+    float pixels[9], sums[6];
+    int i;
+    fill(pixels, 9, 0x7fa00001u);
+    fill(sums, 6, 0u);
+    expect(smoothed(&o, identity, pixels) == 0, what);
+    for (i = 0; i < 9; i += 1) {
+        int is_written = i == 4 && value != 0.0f;
+        expect(is_written ? pixels[i] == value : bits_of(pixels[i]) == 0x7fa00001u, what);
+    }
+    expect(smoothed_back(&o, identity, sums) == 0, what);
+    for (i = 0; i < 6; i += 1) {
+        expect(sums[i] == (i % 3 == 0 ? gradient : 0.0f), what);
+    }
+}
+
+static void no_smoothing(const Outline *o, const float *matrix, uint32_t code, uint32_t back, const char *what) {
+    float pixels[9], sums[6];
+    fill(pixels, 9, 0x7fa00001u);
+    fill(sums, 6, 0xffa00003u);
+    expect(smoothed(o, matrix, pixels) == code && smoothed_back(o, matrix, sums) == back, what);
+    expect(code == 0 || all_are(pixels, 9, 0x7fa00001u), what);
+    expect(back == 0 || all_are(sums, 6, 0xffa00003u), what);
+}
+
+static void smoothing(void) {
+    static const float nowhere[16] = {1, 0, 0, 0, 0, 1, 0, 0, 0, 0, 1, 0, 0, 0, 0, 0};
+    Outline o = outline(1.75f);
+    int k;
+    smooth(1.75f, 0.75f, 1.0f, "a quarter of the way");
+    smooth(1.5f, 0.5f, 1.0f, "through the shown centre");
+    smooth(1.25f, 0.0f, 0.0f, "before the shown centre");
+    smooth(2.25f, 0.0f, 0.0f, "in a column of the border");
+    smooth(float_of(0x7fc00000u), 0.0f, 0.0f, "nowhere");
+    o.img_w = 4097;
+    no_smoothing(&o, identity, 1, 1, "too wide");
+    o.img_w = 3;
+    for (k = 0; k < 2; k += 1) {
+        o.one_short = k;
+        no_smoothing(&o, identity, 3, 3, "edges or vertices one short");
+    }
+    for (k = 2; k < 6; k += 1) {
+        o.one_short = k;
+        no_smoothing(&o, identity, k < 5 ? 4 : 0, 4, "a map or a buffer one short; the sums are of the backward call alone");
+    }
+    o.edge[1] = 2;
+    no_smoothing(&o, nowhere, 10, 4, "a vertex that is not there, and the sums one short");
+    o.one_short = 6;
+    no_smoothing(&o, nowhere, 10, 10, "a vertex that is not there");
+    o.edge[1] = 1;
+    no_smoothing(&o, nowhere, 8, 8, "a divisor of 0");
+}
+
 /* 2 x 2, every edge with velocity 3: so has a point anywhere; a width of 1 is refused. */
 static void velocities(void) {
     const float along[2] = {3.0f, 3.0f}, point[2] = {1.25f, -7.0f};
@@ -467,6 +556,7 @@ int main(void) {
     edges();
     seen_edge_on();
     edges_backward();
+    smoothing();
     velocities();
     drawing();
     cut();

@@ -1,7 +1,7 @@
 //! Corner weights.
 
 /// cross2(a, b, c) = (bx−ax)(cy−ay) − (by−ay)(cx−ax)
-fn cross2(a: &[f32; 2], b: &[f32; 2], c: &[f32; 2]) -> f32 {
+pub(crate) fn cross2(a: &[f32; 2], b: &[f32; 2], c: &[f32; 2]) -> f32 {
     (b[0] - a[0]) * (c[1] - a[1]) - (b[1] - a[1]) * (c[0] - a[0])
 }
 

@@ -24,10 +24,23 @@ pub fn mult_mat3_col_major<T: Float>(g: &[T; 3], j: &[T; 9]) -> [T; 3] {
 
 pub trait Vec3<T> {
     fn xy(&self) -> [T; 2];
+    fn transform_homogeneous(&self, m: &[T; 16]) -> Option<([T; 3], T)>;
+    fn add_in_place(&mut self, other: &[T; 3]);
 }
 
 impl<T: Float> Vec3<T> for [T; 3] {
     fn xy(&self) -> [T; 2] {
         [self[0], self[1]]
+    }
+
+    fn transform_homogeneous(&self, m: &[T; 16]) -> Option<([T; 3], T)> {
+        crate::mat4_col_major::transform_homogeneous(m, self)
+    }
+
+    /// Entries in turn.
+    fn add_in_place(&mut self, other: &[T; 3]) {
+        for (sum, &x) in self.iter_mut().zip(other) {
+            *sum = *sum + x;
+        }
     }
 }

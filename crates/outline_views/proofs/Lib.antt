@@ -1,0 +1,2 @@
+-- laws that the proofs share
+pub mod Asked

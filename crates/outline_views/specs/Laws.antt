@@ -1,0 +1,223 @@
+-- Where no crossing is, and an edge's crossings row by row.
+use Rattle.std.specs.Prelude.{ℕ, ◌+◌, ◌-◌, ◌*◌, ◌/◌, ◌%◌, ◌≤◌, ◌<◌, ◌≡◌, refl, ◌⊎◌, Bool, true, false, not, ◌&&◌, cond, ltb, List, [], ◌∷◌, Float, length}
+use Rattle.std.specs.List.{fold}
+use Rattle.std.proofs.Common.{sym, ◌∙◌, ap, ap₂, inl, inr, zero-add, arith, ltb-true, lt-ltb, le-ltb, mul_comm}
+use Rattle.std.proofs.lemmas.Bool.{lt-leb}
+use Rattle.std.proofs.Math.Bool.{and-false}
+use mathlib.Core.List.{◌++◌, flat_map, append_assoc, append-nil}
+use Rattle.lists.specs.Lists.{tabulate, span}
+use Rattle.lists.specs.Laws.Turns.{flat_map-add, turns_same, turns_nothing, turns_by_rows}
+use Rattle.lists.specs.Laws.Folds.{folds_none, folds_add, folds_one, folds_ended}
+use Rattle.lists.specs.Laws.Tests.{both}
+use Rattle.questions.specs.Questions.{sizes, edge_slices, exact}
+use Rattle.questions.specs.Laws.{accepted, exactly}
+use Rattle.pixels.specs.Pixel.{Pixel, pixel, number_in}
+use Rattle.pixels.specs.Edge.{Axis}
+use Rattle.pixels.specs.Laws.{row-at, column-at}
+use Rattle.boxes.specs.declared.lines.Span.{Span}
+use Rattle.boxes.specs.Box.{in_range}
+use Rattle.boxes.proofs.Reaching.{below_or}
+use Rattle.outlines.specs.Formula.{Ends}
+use Rattle.outlines.specs.Covered.{has_nan, covers, meets_side, meets_square}
+use Rattle.outlines.specs.Neighbours.{pair_axis, neighbour_pair, before, after, within_border}
+use Rattle.outline_spans.specs.Narrowed.{Narrowed}
+use Rattle.outline_views.specs.Outline.{OutlineView, Met, pair_met, pixel_met, covered_met, edge_met, exact_images, outline_code}
+use Rattle.outline_views.specs.Steps.{OffBorder}
+
+-- a pixel and its neighbours alike: no pair has one that shows a face and one that is empty
+pub nothing_met : (s : OutlineView) (a : Axis) (p : Pixel) (b : Bool) → s.shows (number_in s.width p) ≡ b → s.shows (number_in s.width (before a p)) ≡ b → s.shows (number_in s.width (after a p)) ≡ b
+    → (e : Ends Float) → pair_axis e ≡ a → pixel_met s e p ≡ []
+unfolding pixel_met pair_met neighbour_pair flat_map tabulate
+nothing_met s a p true here one two e same = rw (same, here, one, two) refl
+nothing_met s a p false here one two e same = rw (same, here, one, two) refl
+
+off-border : (w h : ℕ) (p : Pixel) → OffBorder w h p → within_border w h p ≡ true
+unfolding within_border
+off-border w h p k = rw (lt-ltb 0 p.column k.left, lt-ltb (p.column + 1) w k.right, lt-ltb 0 p.row k.upper, lt-ltb (p.row + 1) h k.lower) refl
+
+-- off the border, an edge's crossings at a pixel are the pixel's where it covers it
+pub covered_off_border : (s : OutlineView) (e : Ends Float) (p : Pixel) → OffBorder s.width s.height p → covered_met s e p ≡ cond (covers e p) (pixel_met s e p) []
+unfolding covered_met
+covered_off_border s e p k = rw (off-border s.width s.height p k) refl
+
+-- and none where the pixel has none
+pub covered_nothing : (s : OutlineView) (e : Ends Float) (p : Pixel) → pixel_met s e p ≡ [] → covered_met s e p ≡ []
+unfolding covered_met
+covered_nothing s e p h = rw h (go (within_border s.width s.height p && covers e p))
+  where
+    go : (b : Bool) → ◌≡◌ {A = List Met} (cond b [] []) []
+    go true = refl
+    go false = refl
+
+-- ---- an accepted call
+
+pub lengths_passed : (s : OutlineView) (lengths : Bool) → 0 ≡ outline_code s lengths → lengths ≡ true
+unfolding outline_code
+lengths_passed s lengths e =
+    let one = accepted 0 (sizes 1 s.width s.height) _ (sym e) in
+    let three = accepted 2 (edge_slices (length s.edges) (length s.vertices)) _ one.1 in
+    (accepted 3 lengths _ three.1).0
+
+-- the two images beside the map
+pub images_passed : (w h map a b : ℕ) → exact_images w h map a b ≡ true → (a ≡ w * h) × (b ≡ w * h)
+unfolding exact_images
+images_passed w h map a b e =
+    let two = both (exact (w * h) map) _ e in
+    let three = both (exact (w * h) a) _ two.1 in
+    (exactly (w * h) a three.0, exactly (w * h) b three.1)
+
+-- ---- lists of what is brought
+
+flat_map_append : {A B : Type 0} (g : A → List B) (xs ys : List A) → flat_map g (xs ++ ys) ≡ flat_map g xs ++ flat_map g ys
+unfolding flat_map
+flat_map_append g [] ys = refl
+flat_map_append {B = B} g (x ∷ xs) ys = ap (λ (t : List B). g x ++ t) (flat_map_append g xs ys) ∙ sym (append_assoc (g x) (flat_map g xs) (flat_map g ys))
+
+flat_map_flat : {A B : Type 0} (g : A → List B) (f : ℕ → List A) (xs : List ℕ) → flat_map g (flat_map f xs) ≡ flat_map (λ i. flat_map g (f i)) xs
+unfolding flat_map
+flat_map_flat g f [] = refl
+flat_map_flat {B = B} g f (x ∷ xs) = flat_map_append g (f x) (flat_map f xs) ∙ ap (λ (t : List B). flat_map g (f x) ++ t) (flat_map_flat g f xs)
+
+-- turns from a on up to b, where the others of n bring nothing
+turns_amid : {B : Type 0} (f : ℕ → List B) (n a b : ℕ) → a ≤ b → b ≤ n → ((i : ℕ) → i < n → i < a → f i ≡ []) → ((i : ℕ) → i < n → b ≤ i → f i ≡ [])
+    → flat_map f (span 0 n) ≡ flat_map f (span a (b - a))
+turns_amid {B} f n a b h k early late =
+    let e : n ≡ a + ((b - a) + (n - b)) = omega arith in
+    let m : 0 + a + (b - a) ≡ b = omega arith in
+    ap (λ (i : ℕ). flat_map f (span 0 i)) e
+    ∙ flat_map-add f 0 a ((b - a) + (n - b))
+    ∙ ap₂ ◌++◌ (turns_nothing f 0 a (λ i l. early (0 + i) (omega arith) (omega arith))) (flat_map-add f (0 + a) (b - a) (n - b))
+    ∙ ap (λ (t : List B). flat_map f (span (0 + a) (b - a)) ++ t) (turns_nothing f (0 + a + (b - a)) (n - b) (λ i l. late (0 + a + (b - a) + i) (omega arith) (omega arith)))
+    ∙ append-nil (flat_map f (span (0 + a) (b - a)))
+    ∙ ap (λ (i : ℕ). flat_map f (span i (b - a))) (zero-add a)
+
+turns_out : {B : Type 0} (f : ℕ → List B) (n a b : ℕ) → b ≤ a → ((i : ℕ) → i < n → f i ≡ []) → flat_map f (span 0 n) ≡ flat_map f (span a (b - a))
+unfolding flat_map tabulate
+turns_out f n a b h none =
+    let e : b - a ≡ 0 = omega arith in
+    turns_nothing f 0 n (λ i l. none (0 + i) (omega arith)) ∙ sym (ap (λ (k : ℕ). flat_map f (span a k)) e)
+
+-- of n turns, those out of a range bring nothing
+pub turns_narrowed : {B : Type 0} (f : ℕ → List B) (n a b : ℕ) → b ≤ n → ((i : ℕ) → i < n → in_range a b i ≡ false → f i ≡ []) → flat_map f (span 0 n) ≡ flat_map f (span a (b - a))
+unfolding in_range
+turns_narrowed f n a b h none = go (below_or a b)
+  where
+    early : (i : ℕ) → i < n → i < a → f i ≡ []
+    early i l k = none i l (rw (lt-leb a i k))
+
+    late : (i : ℕ) → i < n → b ≤ i → f i ≡ []
+    late i l k = none i l (rw (le-ltb i b k) (and-false _))
+
+    go : (a < b) ⊎ (b ≤ a) → flat_map f (span 0 n) ≡ flat_map f (span a (b - a))
+    go (inl k) = turns_amid f n a b (omega arith) h early late
+    go (inr k) = turns_out f n a b k (λ i l. split i l (below_or i a))
+      where
+        split : (i : ℕ) → i < n → (i < a) ⊎ (a ≤ i) → f i ≡ []
+        split i l (inl m) = early i l m
+        split i l (inr m) = late i l (omega arith)
+
+-- a loop from a on: before its first turn
+pub folds_first : {S A : Type 0} (step : S → A → S) (f : ℕ → List A) (s : S) (a : ℕ) → s ≡ fold step s (flat_map f (span a (a - a)))
+folds_first step f s a = let e : 0 ≡ a - a = omega arith in folds_none step f s a ∙ ap (λ (n : ℕ). fold step s (flat_map f (span a n))) e
+
+-- and turn x of it
+pub folds_next : {S A : Type 0} (step : S → A → S) (f : ℕ → List A) (s : S) (a x : ℕ) {cur new : S} → a ≤ x → cur ≡ fold step s (flat_map f (span a (x - a))) → new ≡ fold step cur (f x)
+    → new ≡ fold step s (flat_map f (span a (x + 1 - a)))
+folds_next {S} step f s a x {cur} h e next =
+    let k : a + (x - a) ≡ x = omega arith in
+    let l : x - a + 1 ≡ x + 1 - a = omega arith in
+    next
+    ∙ ap (λ (t : S). fold step t (f x)) e
+    ∙ sym (folds_add step f s a (x - a) 1 ∙ folds_one step f (fold step s (flat_map f (span a (x - a)))) (a + (x - a)) ∙ ap (λ (i : ℕ). fold step (fold step s (flat_map f (span a (x - a)))) (f i)) k)
+    ∙ ap (λ (i : ℕ). fold step s (flat_map f (span a i))) l
+
+-- the loop's end, where the turns out of its range bring nothing
+pub folds_narrowed : {S A : Type 0} (step : S → A → S) (f : ℕ → List A) (s : S) (n a b x : ℕ) {cur : S} → b ≤ n → ((i : ℕ) → i < n → in_range a b i ≡ false → f i ≡ []) → x - a ≡ b - a
+    → cur ≡ fold step s (flat_map f (span a (x - a))) → cur ≡ fold step s (flat_map f (span 0 n))
+folds_narrowed {S} step f s n a b x h none k e = e ∙ ap (λ (i : ℕ). fold step s (flat_map f (span a i))) k ∙ sym (ap (fold step s) (turns_narrowed f n a b h none))
+
+-- ---- an edge's crossings, row by row
+
+module _ {B : Type 0} (g : Met → List B) (s : OutlineView) (e : Ends Float) where
+  -- what a column brings in row y, and a row
+  abbrev pub column_items : ℕ → ℕ → List B
+  column_items y x = flat_map g (covered_met s e (pixel x y))
+
+  abbrev pub row_items : ℕ → List B
+  row_items y = flat_map (column_items y) (span 0 s.width)
+
+  by_number : ℕ → List B
+  by_number n = flat_map g (covered_met s e (pixel (n % s.width) (n / s.width)))
+
+  one_row : (y : ℕ) → flat_map by_number (span (y * s.width) s.width) ≡ row_items y
+  unfolding by_number
+  one_row y =
+      turns_same by_number (column_items y) (y * s.width) 0 s.width
+      (λ x l.
+      let j : x ≡ 0 + x = omega arith in
+      ap₂ (λ (c r : ℕ). flat_map g (covered_met s e (pixel c r))) (column-at s.width y x l ∙ j) (row-at s.width y x l))
+
+  pub met_by_rows : flat_map g (edge_met s e) ≡ flat_map row_items (span 0 s.height)
+  unfolding edge_met by_number
+  met_by_rows =
+      flat_map_flat g (λ n. covered_met s e (pixel (n % s.width) (n / s.width))) (span 0 (s.width * s.height))
+      ∙ ap (λ (n : ℕ). flat_map by_number (span 0 n)) (mul_comm s.width s.height)
+      ∙ turns_by_rows by_number row_items s.width s.height one_row
+
+  -- what a pixel brings, pair by pair
+  pub pixel_by_pairs : (p : Pixel) → flat_map g (pixel_met s e p) ≡ flat_map (λ k. flat_map g (pair_met s e (neighbour_pair (pair_axis e) p k))) (span 0 4)
+  unfolding pixel_met
+  pixel_by_pairs p = flat_map_flat g (λ k. pair_met s e (neighbour_pair (pair_axis e) p k)) (span 0 4)
+
+  -- where the edge does not cover a pixel it brings nothing, nor on the border
+  uncovered : (p : Pixel) → within_border s.width s.height p && covers e p ≡ false → flat_map g (covered_met s e p) ≡ []
+  unfolding covered_met flat_map
+  uncovered p h = rw h refl
+
+  on_border : (x y : ℕ) → (0 < x → x + 1 < s.width → covers e (pixel x y) ≡ false) → flat_map g (covered_met s e (pixel x y)) ≡ []
+  unfolding within_border
+  on_border x y h = uncovered (pixel x y) (go (ltb 0 x) refl (ltb (x + 1) s.width) refl)
+    where
+      rest : Bool
+      rest = ltb 0 y && ltb (y + 1) s.height
+
+      go : (a : Bool) → ltb 0 x ≡ a → (b : Bool) → ltb (x + 1) s.width ≡ b → within_border s.width s.height (pixel x y) && covers e (pixel x y) ≡ false
+      go true p true q = rw (h (ltb-true 0 x p) (ltb-true (x + 1) s.width q)) (and-false _)
+      go true p false q = rw (p, q) refl
+      go false p b q = rw p refl
+
+  -- a row's columns out of a narrowed range bring nothing
+  pub column_missed : (y : ℕ) (r : Span) → Narrowed (λ x. covers e (pixel x y)) s.width r → (x : ℕ) → x < s.width → in_range r.start r.end x ≡ false → column_items y x ≡ []
+  column_missed y r k x l o = on_border x y (λ a b. k.missed x a b o)
+
+  unmet : (x y : ℕ) → (0 < y → y + 1 < s.height → meets_side e.q0.y e.q1.y y ≡ false) → flat_map g (covered_met s e (pixel x y)) ≡ []
+  unfolding within_border covers meets_square
+  unmet x y h = uncovered (pixel x y) (go (ltb 0 y) refl (ltb (y + 1) s.height) refl)
+    where
+      go : (a : Bool) → ltb 0 y ≡ a → (b : Bool) → ltb (y + 1) s.height ≡ b → within_border s.width s.height (pixel x y) && covers e (pixel x y) ≡ false
+      go true p true q = rw (h (ltb-true 0 y p) (ltb-true (y + 1) s.height q), and-false (meets_side e.q0.x e.q1.x x), and-false (not (has_nan e))) (and-false _)
+      go true p false q = rw (p, q, and-false (ltb 0 x && ltb (x + 1) s.width)) refl
+      go false p b q = rw (p, and-false (ltb 0 x && ltb (x + 1) s.width)) refl
+
+  -- and so do its rows
+  pub row_missed : (r : Span) → Narrowed (λ y. meets_side e.q0.y e.q1.y y) s.height r → (y : ℕ) → y < s.height → in_range r.start r.end y ≡ false → row_items y ≡ []
+  row_missed r k y l o = turns_nothing (column_items y) 0 s.width (λ x m. unmet (0 + x) y (λ a b. k.missed y a b o))
+
+  -- ---- a pass's loops, each step one item
+
+  module _ {S : Type 0} (step : S → B → S) (z : S) where
+    pub pixel_ended : {a : Axis} {cur : S} (p : Pixel) (k : ℕ) → a ≡ pair_axis e → k ≤ 4 → 4 ≤ k
+        → covered_met s e p ≡ pixel_met s e p
+        → cur ≡ fold step z (flat_map (λ i. flat_map g (pair_met s e (neighbour_pair a p i))) (span 0 k)) → cur ≡ fold step z (flat_map g (covered_met s e p))
+    pixel_ended p k same l h covered inv =
+        folds_ended step (λ i. flat_map g (pair_met s e (neighbour_pair (pair_axis e) p i))) z k 4 l h (rw same at inv)
+        ∙ sym (ap (λ (ms : List Met). fold step z (flat_map g ms)) covered ∙ ap (fold step z) (pixel_by_pairs p))
+
+    pub row_ended : {cur : S} (y : ℕ) (r : Span) (x : ℕ) → Narrowed (λ x. covers e (pixel x y)) s.width r → x - r.start ≡ r.end - r.start
+        → cur ≡ fold step z (flat_map (column_items y) (span r.start (x - r.start))) → cur ≡ fold step z (row_items y)
+    row_ended y r x k same inv = let l = k.last in folds_narrowed step (column_items y) z s.width r.start r.end x (omega arith) (column_missed y r k) same inv
+
+    pub edge_ended : {cur : S} (r : Span) (y : ℕ) → Narrowed (λ y. meets_side e.q0.y e.q1.y y) s.height r → y - r.start ≡ r.end - r.start
+        → cur ≡ fold step z (flat_map row_items (span r.start (y - r.start))) → cur ≡ fold step z (flat_map g (edge_met s e))
+    edge_ended r y k same inv =
+        let l = k.last in folds_narrowed step row_items z s.height r.start r.end y (omega arith) (row_missed r k) same inv ∙ sym (ap (fold step z) met_by_rows)

@@ -1,0 +1,30 @@
+-- What an accepted call knows.
+use Rattle.std.specs.Prelude.{ℕ, ◌+◌, ◌*◌, ◌/◌, ◌≤◌, ◌<◌, ◌≡◌, true, List, length, Float}
+use Rattle.questions.specs.Questions.{all_below}
+use Rattle.questions.specs.Laws.{Sized}
+use Rattle.pixels.specs.Pixel.{Pixel}
+use Rattle.pixels.specs.Edge.{Axis}
+
+-- whole edges and vertices, each edge naming vertices that are there, and an image of whole size
+pub record SoundOutline (cedge : List ℕ) (xyz : List Float) (map : List ℕ) (w h : ℕ) : Type 0 where
+  pub size : Sized 1 w h
+  pub edges : 2 * (length cedge / 2) ≡ length cedge
+  pub vertices : 3 * (length xyz / 3) ≡ length xyz
+  pub named : all_below (length xyz / 3) cedge ≡ true
+  pub whole : length map ≡ w * h
+
+-- a pixel of an image with a neighbour on each side along an axis
+pub record Inside (a : Axis) (w h : ℕ) (p : Pixel) : Type 0 where
+  pub left : a.right ≤ p.column
+  pub right : p.column + a.right < w
+  pub upper : a.down ≤ p.row
+  pub lower : p.row + a.down < h
+  pub width : w ≤ 4096
+  pub height : h ≤ 4096
+
+-- a pixel of an image that is not on its border
+pub record OffBorder (w h : ℕ) (p : Pixel) : Type 0 where
+  pub left : 1 ≤ p.column
+  pub right : p.column + 1 < w
+  pub upper : 1 ≤ p.row
+  pub lower : p.row + 1 < h
