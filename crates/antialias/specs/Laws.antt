@@ -1,6 +1,5 @@
 -- Proved of the definitions.
 use Rattle.std.specs.Prelude.{ℕ, ◌*◌, ◌≡◌, refl, List, [], ◌∷◌, length, Float}
-use Rattle.std.specs.List.{fold}
 use Rattle.std.proofs.Common.{◌∙◌, length-set}
 use Rattle.outline_views.specs.Outline.{OutlineView}
 use Rattle.outline_views.specs.Laws.{lengths_passed, images_passed}
@@ -14,7 +13,6 @@ length-written out (w ∷ ws) = length-written (wrote out w) ws ∙ length-set o
 
 pub as_long : (out : List Float) {new : List Float} {n : ℕ} (ws : List Write) → length out ≡ n → new ≡ written out ws → length new ≡ n
 as_long out ws e made = rw made (length-written out ws ∙ e)
-
 
 -- what an accepted call knows of its images
 pub antialias_accepted : (s : OutlineView) (map : List ℕ) (vin vout : List Float) → 0 ≡ antialias_code s map vin vout → (length vin ≡ s.width * s.height) × (length vout ≡ s.width * s.height)

@@ -15,8 +15,8 @@ ghost use Rattle.outline_views.specs.Answer.{seen_of, met_of, outline_edge_of, L
 ghost use Rattle.antialias.specs.Smoothing.{wrote, written, smoothed, writes};
 ghost use Rattle.antialias.specs.Calls.{antialias_code, antialias_writes, antialiasing};
 
-use outlines::{Ends, NeighbourPair};
 use outline_views::{Lengths, Met, Outline, OutlineEdge, Traced};
+use outlines::{Ends, NeighbourPair};
 use pixels::{Axis, Pixel};
 use questions::Refusal;
 
@@ -63,7 +63,13 @@ fn smooth_pixel(vout: &mut [f32], o: &Outline, vin: &[f32], t: &Traced, p: Pixel
         return;
     }
     for k in 0..4 {
-        smooth_pair(vout, o, vin, t.reach.e, outlines::neighbour_pair(t.axis, p, k));
+        smooth_pair(
+            vout,
+            o,
+            vin,
+            t.reach.e,
+            outlines::neighbour_pair(t.axis, p, k),
+        );
     }
 }
 

@@ -2,7 +2,6 @@
 use Rattle.std.specs.Prelude.{ℕ, ◌*◌, ◌≡◌, List, length, Float}
 use Rattle.std.proofs.Common.{◌∙◌}
 use Rattle.lists.specs.Laws.Tests.{both}
-use Rattle.questions.specs.Questions.{exact}
 use Rattle.questions.specs.Laws.{exactly}
 use Rattle.meshes.specs.Sums.{Addition, summed}
 use Rattle.meshes.specs.Laws.{length-summed}

@@ -17,12 +17,12 @@ ghost use Rattle.outline_views.specs.Answer.{seen_of, met_of, outline_edge_of, L
 ghost use Rattle.antialias_bwd.specs.Formula as formula;
 ghost use Rattle.antialias_bwd.specs.Additions.{crossing_dldr, at_vertex, to_ends, met_additions, crossing_additions};
 ghost use Rattle.antialias_bwd.specs.Calls.{bwd_antialias_code, outline_additions, antialiasing_bwd};
-ghost use Rattle.antialias_bwd.specs.Answer.{brought};
+ghost use Rattle.antialias_bwd.specs.Answer.{brought, Ready};
 
 use geometry::{Vec2, Vec3};
 use jacobians::Mat3;
-use outlines::{Ends, NeighbourPair};
 use outline_views::{Lengths, Met, Outline, OutlineEdge, Traced};
+use outlines::{Ends, NeighbourPair};
 use pixels::Pixel;
 use questions::Refusal;
 
@@ -107,4 +107,168 @@ fn scatter_met(sums: &mut [f32], values: &PixelValues, a: &MovedEdge, k: Met)
 {
     let g = outlines::crossing_backward(a.t.reach.e, k.crossing, values.dldr(k));
     add_ends(sums, a, g);
+}
+
+// A pair of neighbouring pixels.
+fn scatter_pair(
+    sums: &mut [f32],
+    o: &Outline,
+    values: &PixelValues,
+    a: &MovedEdge,
+    r: NeighbourPair,
+)
+    requires first_column { r.first.x < o.now.size.w }
+    requires first_row { r.first.y < o.now.size.h }
+    requires second_column { r.second.x < o.now.size.w }
+    requires second_row { r.second.y < o.now.size.h }
+    requires ready { Ready o.now values.now a.now sums.old }
+    ensures { sums.new ≡ summed sums.old (flat_map (brought values.now a.now) (pair_met (seen_of o.now) (ends_of a.now.t.reach.e) (pair_of r))) }
+{
+    match o.met(a.t.reach.e, r) {
+        Some(k) => scatter_met(sums, values, a, k),
+        None => {}
+    }
+}
+
+// A pixel's four pairs, where the edge covers the pixel and a crossing may be there.
+fn scatter_pixel(sums: &mut [f32], o: &Outline, values: &PixelValues, a: &MovedEdge, p: Pixel)
+    requires inside { OffBorder o.now.size.w o.now.size.h (pixel_of p) }
+    requires ready { Ready o.now values.now a.now sums.old }
+    ensures { sums.new ≡ summed sums.old (flat_map (brought values.now a.now) (covered_met (seen_of o.now) (ends_of a.now.t.reach.e) (pixel_of p))) }
+{
+    if !o.touches(&a.t, p) {
+        return;
+    }
+    for k in 0..4 {
+        scatter_pair(sums, o, values, a, outlines::neighbour_pair(a.t.axis, p, k));
+    }
+}
+
+// The pixels of a row that an edge may cover.
+fn scatter_row(sums: &mut [f32], o: &Outline, values: &PixelValues, a: &MovedEdge, y: usize)
+    requires upper { 1 ≤ y }
+    requires lower { y + 1 < o.now.size.h }
+    requires ready { Ready o.now values.now a.now sums.old }
+    ensures { sums.new ≡ summed sums.old (row_items (brought values.now a.now) (seen_of o.now) (ends_of a.now.t.reach.e) y) }
+{
+    let columns = a.t.reach.columns(y);
+    for x in columns.start..columns.end {
+        scatter_pixel(sums, o, values, a, Pixel { x, y });
+    }
+}
+
+// The rows of an edge.
+fn scatter_edge(sums: &mut [f32], o: &Outline, values: &PixelValues, a: &MovedEdge)
+    requires ready { Ready o.now values.now a.now sums.old }
+    ensures { sums.new ≡ summed sums.old (flat_map (brought values.now a.now) (edge_met (seen_of o.now) (ends_of a.now.t.reach.e))) }
+{
+    for y in a.t.reach.rows.start..a.t.reach.rows.end {
+        scatter_row(sums, o, values, a, y);
+    }
+}
+
+// An edge by its vertices.
+fn scatter_ends(sums: &mut [f32], o: &Outline, values: &PixelValues, f: OutlineEdge)
+    requires first { f.v0 < length o.now.vtx2xyz.now / 3 }
+    requires second { f.v1 < length o.now.vtx2xyz.now / 3 }
+    requires pixels { length values.now.pix2val.now ≡ o.now.size.w * o.now.size.h }
+    requires gradients { length values.now.dldw_pix2val.now ≡ o.now.size.w * o.now.size.h }
+    requires lent { length sums.old ≡ length o.now.vtx2xyz.now }
+    ensures { sums.new ≡ summed sums.old (edge_items (crossing_additions o.now.m.now o.now.vtx2xyz.now values.now.pix2val.now values.now.dldw_pix2val.now)
+        (seen_of o.now) (outline_edge_of f) (project_edge o.now.m.now o.now.vtx2xyz.now (outline_edge_of f))) }
+{
+    match o.project(f) {
+        Some(e) => {
+            let a = MovedEdge {
+                f,
+                t: o.trace(e),
+                j0: jacobians::jacobian_transform(o.m, meshes::vertex(o.vtx2xyz, f.v0)),
+                j1: jacobians::jacobian_transform(o.m, meshes::vertex(o.vtx2xyz, f.v1)),
+            };
+            scatter_edge(sums, o, values, &a);
+        }
+        None => {}
+    }
+}
+
+// The edges, in order.
+fn scatter_outline(sums: &mut [f32], o: &Outline, values: &PixelValues)
+    requires pixels { length values.now.pix2val.now ≡ o.now.size.w * o.now.size.h }
+    requires gradients { length values.now.dldw_pix2val.now ≡ o.now.size.w * o.now.size.h }
+    requires lent { length sums.old ≡ length o.now.vtx2xyz.now }
+    ensures { sums.new ≡ summed sums.old (outline_additions (seen_of o.now) values.now.pix2val.now values.now.dldw_pix2val.now) }
+{
+    for k in 0..o.edge_count() {
+        scatter_ends(sums, o, values, o.edge(k));
+    }
+}
+
+// Questions 1, 3, 4, 10 and 8, and the outline that they are asked of. (The parameters are the call's.)
+#[tactic(auto, unfolding(crate::specs::Calls::bwd_antialias_code, questions::specs::Questions::exact))]
+fn ask_bwd_antialias<'a>(
+    cedge2vtx: &'a [u32],
+    vtx2xyz: &'a [f32],
+    dldw_vtx2xyz: &[f32],
+    transform_world2pix: &'a [f32; 16],
+    img_w: usize,
+    img_h: usize,
+    pix2val: &[f32],
+    dldw_pix2val: &[f32],
+    pix2tri: &'a [u32],
+) -> Result<Outline<'a>, Refusal>
+    ensures code { code_of result
+        ≡ bwd_antialias_code (outline_view (shown_in pix2tri.now) cedge2vtx.now transform_world2pix.now vtx2xyz.now img_w img_h) pix2tri.now
+        pix2val.now dldw_pix2val.now dldw_vtx2xyz.now }
+    ensures lent { IfOk result (λ o. Lent o (outline_view (shown_in pix2tri.now) cedge2vtx.now transform_world2pix.now vtx2xyz.now img_w img_h)) }
+{
+    let lengths = Lengths {
+        first: pix2val.len(),
+        second: dldw_pix2val.len(),
+        others: dldw_vtx2xyz.len() == vtx2xyz.len(),
+    };
+    Outline::ask(
+        cedge2vtx,
+        vtx2xyz,
+        transform_world2pix,
+        img_w,
+        img_h,
+        pix2tri,
+        lengths,
+    )
+}
+
+// Goes back through the smoothing: adds what each crossing brings the ends of its edge.
+#[tactic(auto, unfolding(crate::specs::Calls::antialiasing_bwd))]
+pub fn bwd_antialias(
+    cedge2vtx: &[u32],
+    vtx2xyz: &[f32],
+    dldw_vtx2xyz: &mut [f32],
+    transform_world2pix: &[f32; 16],
+    img_w: usize,
+    img_h: usize,
+    pix2val: &[f32],
+    dldw_pix2val: &[f32],
+    pix2tri: &[u32],
+) -> Result<(), Refusal>
+    ensures { outcome (code_of result) dldw_vtx2xyz.new
+        ≡ antialiasing_bwd (outline_view (shown_in pix2tri.now) cedge2vtx.now transform_world2pix.now vtx2xyz.now img_w img_h) pix2tri.now
+        pix2val.now dldw_pix2val.now dldw_vtx2xyz.old }
+{
+    let o = ask_bwd_antialias(
+        cedge2vtx,
+        vtx2xyz,
+        dldw_vtx2xyz,
+        transform_world2pix,
+        img_w,
+        img_h,
+        pix2val,
+        dldw_pix2val,
+        pix2tri,
+    )?;
+    let values = PixelValues {
+        pix2val,
+        dldw_pix2val,
+    };
+    scatter_outline(dldw_vtx2xyz, &o, &values);
+    Ok(())
 }

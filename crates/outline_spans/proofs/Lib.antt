@@ -1,2 +1,5 @@
 -- laws that the proofs share
 pub mod Narrowing
+pub mod Lines
+pub mod Sides
+pub mod Misses

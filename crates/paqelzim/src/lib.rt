@@ -28,6 +28,9 @@ ghost use Rattle.edge_types.specs.Axis.{axis_buffers};
 ghost use Rattle.edges.specs.Calls.{edge_buffers, edge_typing};
 ghost use Rattle.edge_bwd.specs.Calls.{edge_bwd};
 ghost use Rattle.velocity.specs.Calls.{velocities};
+ghost use Rattle.outline_views.specs.Outline.{outline_view, shown_in};
+ghost use Rattle.antialias.specs.Calls.{antialiasing};
+ghost use Rattle.antialias_bwd.specs.Calls.{antialiasing_bwd};
 
 use load::DrawingLoad;
 use removal_counts::RemovalPreview;
@@ -301,6 +304,59 @@ pub fn paqelzim_interpolate_from_edges(
 {
     questions::code(velocity::interpolate_from_edges(
         img_w, img_h, hedge2vy, vedge2vx, vtx2xy, vtx2velo,
+    ))
+}
+
+pub fn paqelzim_antialias(
+    cedge2vtx: &[u32],
+    vtx2xyz: &[f32],
+    transform_world2pix: &[f32; 16],
+    img_w: usize,
+    img_h: usize,
+    pix2tri: &[u32],
+    pix2vin: &[f32],
+    pix2vout: &mut [f32],
+) -> u32
+    ensures { outcome result pix2vout.new
+        ≡ antialiasing (outline_view (shown_in pix2tri.now) cedge2vtx.now transform_world2pix.now vtx2xyz.now img_w img_h) pix2tri.now pix2vin.now pix2vout.old }
+{
+    questions::code(antialias::antialias(
+        cedge2vtx,
+        vtx2xyz,
+        transform_world2pix,
+        img_w,
+        img_h,
+        pix2tri,
+        pix2vin,
+        pix2vout,
+    ))
+}
+
+pub fn paqelzim_bwd_antialias(
+    cedge2vtx: &[u32],
+    vtx2xyz: &[f32],
+    dldw_vtx2xyz: &mut [f32],
+    transform_world2pix: &[f32; 16],
+    img_w: usize,
+    img_h: usize,
+    pix2val: &[f32],
+    dldw_pix2val: &[f32],
+    pix2tri: &[u32],
+) -> u32
+    ensures { outcome result dldw_vtx2xyz.new
+        ≡ antialiasing_bwd (outline_view (shown_in pix2tri.now) cedge2vtx.now transform_world2pix.now vtx2xyz.now img_w img_h) pix2tri.now
+        pix2val.now dldw_pix2val.now dldw_vtx2xyz.old }
+{
+    questions::code(antialias_bwd::bwd_antialias(
+        cedge2vtx,
+        vtx2xyz,
+        dldw_vtx2xyz,
+        transform_world2pix,
+        img_w,
+        img_h,
+        pix2val,
+        dldw_pix2val,
+        pix2tri,
     ))
 }
 

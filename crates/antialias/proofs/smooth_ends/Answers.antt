@@ -1,4 +1,3 @@
-use mathlib.Core.Path.{sym}
 use Rattle.outline_views.specs.Outline.{edge_items}
 use Rattle.antialias.specs.Smoothing.{written}
 use Rattle.antialias.proofs.smooth_ends.Goals as goal

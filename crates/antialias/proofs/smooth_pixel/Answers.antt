@@ -6,7 +6,7 @@ use Rattle.pixels.specs.Answer.{axis_of}
 use Rattle.outlines.specs.Neighbours.{neighbour_pair}
 use Rattle.lists.specs.Laws.Folds.{folds_none, folds_more}
 use Rattle.outlines.specs.Answer.{ends_of, pixel_of}
-use Rattle.outline_views.specs.Outline.{pair_met, covered_met}
+use Rattle.outline_views.specs.Outline.{pair_met}
 use Rattle.outline_views.specs.Laws.{pixel_ended}
 use Rattle.outline_views.specs.Answer.{seen_of}
 use Rattle.antialias.specs.Smoothing.{Write, wrote, written, writes}
@@ -34,4 +34,4 @@ unfolding written
 returns c =
     let a = c.args in
     pixel_ended (writes a.vin.now) (seen_of a.o.now) (ends_of a.t.now.reach.e) wrote a.vout.now (pixel_of a.p) c.loop-k.k a.t.now.pairs (omega arith) (omega (arith, c.loop-k-test.false))
-        (rw c.if-not-touches.false at c.touches.ensures) c.loop-k.invariant.1
+    (rw c.if-not-touches.false at c.touches.ensures) c.loop-k.invariant.1

@@ -33,4 +33,4 @@ returns c =
     let a = c.args in
     let inv = c.loop-x.invariant in
     row_ended (writes a.vin.now) (seen_of a.o.now) (ends_of a.t.now.reach.e) wrote a.vout.now a.y c.columns-columns.result c.loop-x.x (rw c.requires.width at c.columns-columns.ensures)
-        (omega (arith, inv.1, inv.2, c.loop-x-test.false)) inv.3
+    (omega (arith, inv.1, inv.2, c.loop-x-test.false)) inv.3

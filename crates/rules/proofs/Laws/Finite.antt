@@ -12,7 +12,7 @@ use Rattle.geometry.specs.Formula.{cross2, areas, total}
 use Rattle.geometry.specs.Leaf.{weighed, weighed_all, with_sum, weighed_with_sum, corner_weights}
 use Rattle.rules.specs.Scan.{all_finite, finite_in_pixels, depth_at, weighed_depth}
 
-abbrev Both : Float → Float → Type 0
+abbrev pub Both : Float → Float → Type 0
 Both x y = (finite x ≡ true) × (finite y ≡ true)
 
 cond-not : (b s : Bool) → finite (cond b nan (inf s)) ≡ true → ⊥
@@ -38,11 +38,11 @@ finite_neg nan = refl
 finite_neg (inf s) = refl
 finite_neg (fin s m e) = refl
 
-finite_sub : (x y : Float) → finite (sub binary32 x y) ≡ true → Both x y
+pub finite_sub : (x y : Float) → finite (sub binary32 x y) ≡ true → Both x y
 unfolding sub
 finite_sub x y e = let k = finite_add x (neg y) e in (k.0, rw finite_neg at k.1)
 
-finite_mul : (x y : Float) → finite (mul binary32 x y) ≡ true → Both x y
+pub finite_mul : (x y : Float) → finite (mul binary32 x y) ≡ true → Both x y
 unfolding mul
 finite_mul nan y e = absurd (false≢true e)
 finite_mul (inf s) nan e = absurd (false≢true e)

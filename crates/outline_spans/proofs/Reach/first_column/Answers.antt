@@ -1,0 +1,4 @@
+use Rattle.outline_spans.proofs.Reach.first_column.Goals as goal
+
+pub returns-clause-missed : goal.returns-clause-missed
+returns-clause-missed c = c.args.self.now.boxed.before _

@@ -1,0 +1,21 @@
+-- What is said of each end of a narrowed range.
+use Rattle.std.specs.Prelude.{ℕ, ◌+◌, ◌≤◌, ◌<◌, ◌≡◌, Bool, false, Float}
+use Rattle.pixels.specs.Pixel.{pixel}
+use Rattle.outlines.specs.Formula.{Ends}
+use Rattle.outlines.specs.Covered.{covers}
+use Rattle.boxes.specs.declared.lines.Span.{Span}
+
+-- of n lines, each that is not on the border and before r fails the test
+pub record NoneBefore (test : ℕ → Bool) (n r : ℕ) : Type 0 where
+  pub missed : (i : ℕ) → 0 < i → i + 1 < n → i < r → test i ≡ false
+
+-- and each from r on
+pub record NoneFrom (test : ℕ → Bool) (n r : ℕ) : Type 0 where
+  pub missed : (i : ℕ) → 0 < i → i + 1 < n → r ≤ i → test i ≡ false
+
+-- in each row, an edge covers no pixel out of a range of n columns that keeps off the border
+pub record Boxed (e : Ends Float) (n : ℕ) (r : Span) : Type 0 where
+  pub first : 1 ≤ r.start
+  pub last : r.end + 1 ≤ n
+  pub before : (y : ℕ) → NoneBefore (λ x. covers e (pixel x y)) n r.start
+  pub from : (y : ℕ) → NoneFrom (λ x. covers e (pixel x y)) n r.end
