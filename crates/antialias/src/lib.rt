@@ -7,16 +7,16 @@ ghost use Rattle.questions.specs.Answer.{code_of};
 ghost use Rattle.questions.specs.Questions.{outcome};
 ghost use Rattle.pixels.specs.Answer.{axis_of};
 ghost use Rattle.outlines.specs.Neighbours.{pair_axis};
-ghost use Rattle.outlines.specs.Answer.{ends_of, pixel_of, pair_of};
-ghost use Rattle.outline_views.specs.Outline.{outline_view, shown_in, pair_met, covered_met, edge_met, edge_items, project_edge};
+ghost use Rattle.outlines.specs.Answer.{ends_of, pixel_of};
+ghost use Rattle.outline_views.specs.Outline.{outline_view, shown_in, covered_met, edge_met, edge_items, project_edge};
 ghost use Rattle.outline_views.specs.Laws.{row_items};
-ghost use Rattle.outline_views.specs.Steps.{OffBorder};
+ghost use Rattle.outline_views.specs.Steps.{OffBorder, both_met};
 ghost use Rattle.outline_views.specs.Answer.{seen_of, met_of, outline_edge_of, Lent};
 ghost use Rattle.antialias.specs.Smoothing.{wrote, written, smoothed, writes};
 ghost use Rattle.antialias.specs.Calls.{antialias_code, antialias_writes, antialiasing};
 
 use outline_views::{Lengths, Met, Outline, OutlineEdge, Traced};
-use outlines::{Ends, NeighbourPair};
+use outlines::Ends;
 use pixels::{Axis, Pixel};
 use questions::Refusal;
 
@@ -36,23 +36,23 @@ fn smooth_met(vout: &mut [f32], vin: &[f32], k: Met)
     }
 }
 
-// A pair of neighbouring pixels.
-fn smooth_pair(vout: &mut [f32], o: &Outline, vin: &[f32], e: Ends, r: NeighbourPair)
-    requires first_column { r.first.x < o.now.size.w }
-    requires first_row { r.first.y < o.now.size.h }
-    requires second_column { r.second.x < o.now.size.w }
-    requires second_row { r.second.y < o.now.size.h }
+// A pixel and a neighbour of it.
+fn smooth_pair(vout: &mut [f32], o: &Outline, vin: &[f32], e: Ends, p: Pixel, q: Pixel)
+    requires first_column { p.x < o.now.size.w }
+    requires first_row { p.y < o.now.size.h }
+    requires second_column { q.x < o.now.size.w }
+    requires second_row { q.y < o.now.size.h }
     requires pixels { length vin.now ≡ o.now.size.w * o.now.size.h }
     requires lent { length vout.old ≡ length vin.now }
-    ensures { vout.new ≡ written vout.old (flat_map (writes vin.now) (pair_met (seen_of o.now) (ends_of e) (pair_of r))) }
+    ensures { vout.new ≡ written vout.old (flat_map (writes vin.now) (both_met (seen_of o.now) (ends_of e) (pixel_of p) (pixel_of q))) }
 {
-    match o.met(e, r) {
+    match o.met_between(e, p, q) {
         Some(k) => smooth_met(vout, vin, k),
         None => {}
     }
 }
 
-// A pixel's four pairs, where the edge covers the pixel and a crossing may be there.
+// A pixel with its neighbour before and with the one after, where the edge covers the pixel and a crossing may be there.
 fn smooth_pixel(vout: &mut [f32], o: &Outline, vin: &[f32], t: &Traced, p: Pixel)
     requires inside { OffBorder o.now.size.w o.now.size.h (pixel_of p) }
     requires pixels { length vin.now ≡ o.now.size.w * o.now.size.h }
@@ -62,15 +62,8 @@ fn smooth_pixel(vout: &mut [f32], o: &Outline, vin: &[f32], t: &Traced, p: Pixel
     if !o.touches(t, p) {
         return;
     }
-    for k in 0..4 {
-        smooth_pair(
-            vout,
-            o,
-            vin,
-            t.reach.e,
-            outlines::neighbour_pair(t.axis, p, k),
-        );
-    }
+    smooth_pair(vout, o, vin, t.reach.e, p, outlines::before(t.axis, p));
+    smooth_pair(vout, o, vin, t.reach.e, p, outlines::after(t.axis, p));
 }
 
 // The pixels of a row that an edge may cover.

@@ -9,10 +9,10 @@ ghost use Rattle.geometry.specs.Arith.{floats};
 ghost use Rattle.geometry.specs.Answer.{point2, point3};
 ghost use Rattle.jacobians.specs.Answer.{matrix_of};
 ghost use Rattle.meshes.specs.Sums.{summed};
-ghost use Rattle.outlines.specs.Answer.{ends_of, pixel_of, pair_of};
-ghost use Rattle.outline_views.specs.Outline.{outline_view, shown_in, pair_met, covered_met, edge_met, edge_items, project_edge};
+ghost use Rattle.outlines.specs.Answer.{ends_of, pixel_of};
+ghost use Rattle.outline_views.specs.Outline.{outline_view, shown_in, covered_met, edge_met, edge_items, project_edge};
 ghost use Rattle.outline_views.specs.Laws.{row_items};
-ghost use Rattle.outline_views.specs.Steps.{OffBorder};
+ghost use Rattle.outline_views.specs.Steps.{OffBorder, both_met};
 ghost use Rattle.outline_views.specs.Answer.{seen_of, met_of, outline_edge_of, Lent};
 ghost use Rattle.antialias_bwd.specs.Formula as formula;
 ghost use Rattle.antialias_bwd.specs.Additions.{crossing_dldr, at_vertex, to_ends, met_additions, crossing_additions};
@@ -22,7 +22,7 @@ ghost use Rattle.antialias_bwd.specs.Answer.{brought, Ready};
 use geometry::{Vec2, Vec3};
 use jacobians::Mat3;
 use outline_views::{Lengths, Met, Outline, OutlineEdge, Traced};
-use outlines::{Ends, NeighbourPair};
+use outlines::Ends;
 use pixels::Pixel;
 use questions::Refusal;
 
@@ -109,28 +109,29 @@ fn scatter_met(sums: &mut [f32], values: &PixelValues, a: &MovedEdge, k: Met)
     add_ends(sums, a, g);
 }
 
-// A pair of neighbouring pixels.
+// A pixel and a neighbour of it.
 fn scatter_pair(
     sums: &mut [f32],
     o: &Outline,
     values: &PixelValues,
     a: &MovedEdge,
-    r: NeighbourPair,
+    p: Pixel,
+    q: Pixel,
 )
-    requires first_column { r.first.x < o.now.size.w }
-    requires first_row { r.first.y < o.now.size.h }
-    requires second_column { r.second.x < o.now.size.w }
-    requires second_row { r.second.y < o.now.size.h }
+    requires first_column { p.x < o.now.size.w }
+    requires first_row { p.y < o.now.size.h }
+    requires second_column { q.x < o.now.size.w }
+    requires second_row { q.y < o.now.size.h }
     requires ready { Ready o.now values.now a.now sums.old }
-    ensures { sums.new ≡ summed sums.old (flat_map (brought values.now a.now) (pair_met (seen_of o.now) (ends_of a.now.t.reach.e) (pair_of r))) }
+    ensures { sums.new ≡ summed sums.old (flat_map (brought values.now a.now) (both_met (seen_of o.now) (ends_of a.now.t.reach.e) (pixel_of p) (pixel_of q))) }
 {
-    match o.met(a.t.reach.e, r) {
+    match o.met_between(a.t.reach.e, p, q) {
         Some(k) => scatter_met(sums, values, a, k),
         None => {}
     }
 }
 
-// A pixel's four pairs, where the edge covers the pixel and a crossing may be there.
+// A pixel with its neighbour before and with the one after, where the edge covers the pixel and a crossing may be there.
 fn scatter_pixel(sums: &mut [f32], o: &Outline, values: &PixelValues, a: &MovedEdge, p: Pixel)
     requires inside { OffBorder o.now.size.w o.now.size.h (pixel_of p) }
     requires ready { Ready o.now values.now a.now sums.old }
@@ -139,9 +140,8 @@ fn scatter_pixel(sums: &mut [f32], o: &Outline, values: &PixelValues, a: &MovedE
     if !o.touches(&a.t, p) {
         return;
     }
-    for k in 0..4 {
-        scatter_pair(sums, o, values, a, outlines::neighbour_pair(a.t.axis, p, k));
-    }
+    scatter_pair(sums, o, values, a, p, outlines::before(a.t.axis, p));
+    scatter_pair(sums, o, values, a, p, outlines::after(a.t.axis, p));
 }
 
 // The pixels of a row that an edge may cover.

@@ -7,22 +7,23 @@ use Rattle.std.proofs.Math.Bool.{and-false}
 use mathlib.Core.List.{◌++◌, flat_map, append_assoc, append-nil}
 use Rattle.lists.specs.Lists.{tabulate, span}
 use Rattle.lists.specs.Laws.Turns.{flat_map-add, turns_same, turns_nothing, turns_by_rows}
-use Rattle.lists.specs.Laws.Folds.{folds_none, folds_add, folds_one, folds_ended}
+use Rattle.lists.specs.Laws.Folds.{folded_then, folds_none, folds_add, folds_one}
 use Rattle.lists.specs.Laws.Tests.{both}
 use Rattle.questions.specs.Questions.{sizes, edge_slices, exact}
 use Rattle.questions.specs.Laws.{accepted, exactly}
-use Rattle.pixels.specs.Pixel.{Pixel, pixel, number_in}
+use Rattle.pixels.specs.Pixel.{Pixel, pixel, number_in, centre_of}
 use Rattle.pixels.specs.Edge.{Axis}
 use Rattle.pixels.specs.Laws.{row-at, column-at}
 use Rattle.boxes.specs.declared.lines.Span.{Span}
 use Rattle.boxes.specs.Box.{in_range}
 use Rattle.boxes.proofs.Reaching.{below_or}
 use Rattle.outlines.specs.Formula.{Ends}
+use Rattle.outlines.specs.Leaf.{crossing_between}
 use Rattle.outlines.specs.Covered.{has_nan, covers, meets_side, meets_square}
-use Rattle.outlines.specs.Neighbours.{pair_axis, neighbour_pair, before, after, within_border}
+use Rattle.outlines.specs.Neighbours.{pair_axis, neighbour_pair, pair, before, after, within_border}
 use Rattle.outline_spans.specs.Narrowed.{Narrowed}
-use Rattle.outline_views.specs.Outline.{OutlineView, Met, pair_met, pixel_met, covered_met, edge_met, exact_images, outline_code}
-use Rattle.outline_views.specs.Steps.{OffBorder}
+use Rattle.outline_views.specs.Outline.{OutlineView, Met, met_at, pair_met, pixel_met, covered_met, edge_met, exact_images, outline_code}
+use Rattle.outline_views.specs.Steps.{OffBorder, both_met}
 
 -- a pixel and its neighbours alike: no pair has one that shows a face and one that is empty
 pub nothing_met : (s : OutlineView) (a : Axis) (p : Pixel) (b : Bool) → s.shows (number_in s.width p) ≡ b → s.shows (number_in s.width (before a p)) ≡ b → s.shows (number_in s.width (after a p)) ≡ b
@@ -30,6 +31,23 @@ pub nothing_met : (s : OutlineView) (a : Axis) (p : Pixel) (b : Bool) → s.show
 unfolding pixel_met pair_met neighbour_pair flat_map tabulate
 nothing_met s a p true here one two e same = rw (same, here, one, two) refl
 nothing_met s a p false here one two e same = rw (same, here, one, two) refl
+
+-- of a pixel and a neighbour: the first alone shows a face, or the second alone, or both or neither
+module _ (s : OutlineView) (e : Ends Float) (p q : Pixel) where
+  pub met_there : s.shows (number_in s.width p) ≡ true → s.shows (number_in s.width q) ≡ false
+      → met_at (number_in s.width p) (number_in s.width q) (crossing_between (centre_of p) (centre_of q) e) ≡ both_met s e p q
+  unfolding both_met pair_met
+  met_there a b = rw (a, b) (sym (append-nil _))
+
+  pub met_back : s.shows (number_in s.width p) ≡ false → s.shows (number_in s.width q) ≡ true
+      → met_at (number_in s.width q) (number_in s.width p) (crossing_between (centre_of q) (centre_of p) e) ≡ both_met s e p q
+  unfolding both_met pair_met
+  met_back a b = rw (a, b) refl
+
+  pub met_nowhere : (b : Bool) → s.shows (number_in s.width p) ≡ b → s.shows (number_in s.width q) ≡ b → [] ≡ both_met s e p q
+  unfolding both_met pair_met
+  met_nowhere true a b = rw (a, b) refl
+  met_nowhere false a b = rw (a, b) refl
 
 off-border : (w h : ℕ) (p : Pixel) → OffBorder w h p → within_border w h p ≡ true
 unfolding within_border
@@ -77,6 +95,16 @@ flat_map_flat : {A B : Type 0} (g : A → List B) (f : ℕ → List A) (xs : Lis
 unfolding flat_map
 flat_map_flat g f [] = refl
 flat_map_flat {B = B} g f (x ∷ xs) = flat_map_append g (f x) (flat_map f xs) ∙ ap (λ (t : List B). flat_map g (f x) ++ t) (flat_map_flat g f xs)
+
+four_pairs : (s : OutlineView) (e : Ends Float) (a : Axis) (p : Pixel)
+    → flat_map (λ k. pair_met s e (neighbour_pair a p k)) (span 0 4) ≡ both_met s e p (before a p) ++ both_met s e p (after a p)
+unfolding both_met neighbour_pair flat_map tabulate
+four_pairs s e a p =
+    let there = pair_met s e (pair p (before a p)) in
+    let back = pair_met s e (pair (before a p) p) in
+    let on = pair_met s e (pair p (after a p)) in
+    let home = pair_met s e (pair (after a p) p) in
+    ap (λ (ms : List Met). there ++ (back ++ (on ++ ms))) (append-nil home) ∙ sym (append_assoc there back (on ++ home))
 
 -- turns from a on up to b, where the others of n bring nothing
 turns_amid : {B : Type 0} (f : ℕ → List B) (n a b : ℕ) → a ≤ b → b ≤ n → ((i : ℕ) → i < n → i < a → f i ≡ []) → ((i : ℕ) → i < n → b ≤ i → f i ≡ [])
@@ -164,10 +192,12 @@ module _ {B : Type 0} (g : Met → List B) (s : OutlineView) (e : Ends Float) wh
       ∙ ap (λ (n : ℕ). flat_map by_number (span 0 n)) (mul_comm s.width s.height)
       ∙ turns_by_rows by_number row_items s.width s.height one_row
 
-  -- what a pixel brings, pair by pair
-  pub pixel_by_pairs : (p : Pixel) → flat_map g (pixel_met s e p) ≡ flat_map (λ k. flat_map g (pair_met s e (neighbour_pair (pair_axis e) p k))) (span 0 4)
+  -- what a pixel brings, with its neighbour before and with the one after
+  pub pixel_by_neighbours : (a : Axis) (p : Pixel) → a ≡ pair_axis e
+      → flat_map g (pixel_met s e p) ≡ flat_map g (both_met s e p (before a p)) ++ flat_map g (both_met s e p (after a p))
   unfolding pixel_met
-  pixel_by_pairs p = flat_map_flat g (λ k. pair_met s e (neighbour_pair (pair_axis e) p k)) (span 0 4)
+  pixel_by_neighbours a p same =
+      rw same (ap (flat_map g) (four_pairs s e (pair_axis e) p) ∙ flat_map_append g (both_met s e p (before (pair_axis e) p)) (both_met s e p (after (pair_axis e) p)))
 
   -- where the edge does not cover a pixel it brings nothing, nor on the border
   uncovered : (p : Pixel) → within_border s.width s.height p && covers e p ≡ false → flat_map g (covered_met s e p) ≡ []
@@ -206,12 +236,11 @@ module _ {B : Type 0} (g : Met → List B) (s : OutlineView) (e : Ends Float) wh
   -- ---- a pass's loops, each step one item
 
   module _ {S : Type 0} (step : S → B → S) (z : S) where
-    pub pixel_ended : {a : Axis} {cur : S} (p : Pixel) (k : ℕ) → a ≡ pair_axis e → k ≤ 4 → 4 ≤ k
-        → covered_met s e p ≡ pixel_met s e p
-        → cur ≡ fold step z (flat_map (λ i. flat_map g (pair_met s e (neighbour_pair a p i))) (span 0 k)) → cur ≡ fold step z (flat_map g (covered_met s e p))
-    pixel_ended p k same l h covered inv =
-        folds_ended step (λ i. flat_map g (pair_met s e (neighbour_pair (pair_axis e) p i))) z k 4 l h (rw same at inv)
-        ∙ sym (ap (λ (ms : List Met). fold step z (flat_map g ms)) covered ∙ ap (fold step z) (pixel_by_pairs p))
+    pub pixel_ended : {mid cur : S} (a : Axis) (p : Pixel) → a ≡ pair_axis e → covered_met s e p ≡ pixel_met s e p → mid ≡ fold step z (flat_map g (both_met s e p (before a p)))
+        → cur ≡ fold step mid (flat_map g (both_met s e p (after a p))) → cur ≡ fold step z (flat_map g (covered_met s e p))
+    pixel_ended a p same covered one two =
+        folded_then step z (flat_map g (both_met s e p (before a p))) (flat_map g (both_met s e p (after a p))) one two
+        ∙ sym (ap (λ (ms : List Met). fold step z (flat_map g ms)) covered ∙ ap (fold step z) (pixel_by_neighbours a p same))
 
     pub row_ended : {cur : S} (y : ℕ) (r : Span) (x : ℕ) → Narrowed (λ x. covers e (pixel x y)) s.width r → x - r.start ≡ r.end - r.start
         → cur ≡ fold step z (flat_map (column_items y) (span r.start (x - r.start))) → cur ≡ fold step z (row_items y)

@@ -1,9 +1,12 @@
 -- What an accepted call knows.
-use Rattle.std.specs.Prelude.{ℕ, ◌+◌, ◌*◌, ◌/◌, ◌≤◌, ◌<◌, ◌≡◌, true, List, length, Float}
+use Rattle.std.specs.Prelude.{ℕ, ◌+◌, ◌*◌, ◌/◌, ◌≤◌, ◌<◌, ◌≡◌, true, List, ◌++◌, length, Float}
 use Rattle.questions.specs.Questions.{all_below}
 use Rattle.questions.specs.Laws.{Sized}
 use Rattle.pixels.specs.Pixel.{Pixel}
 use Rattle.pixels.specs.Edge.{Axis}
+use Rattle.outlines.specs.Formula.{Ends}
+use Rattle.outlines.specs.Neighbours.{pair}
+use Rattle.outline_views.specs.Outline.{OutlineView, Met, pair_met}
 
 -- whole edges and vertices, each edge naming vertices that are there, and an image of whole size
 pub record SoundOutline (cedge : List ℕ) (xyz : List Float) (map : List ℕ) (w h : ℕ) : Type 0 where
@@ -28,3 +31,7 @@ pub record OffBorder (w h : ℕ) (p : Pixel) : Type 0 where
   pub right : p.column + 1 < w
   pub upper : 1 ≤ p.row
   pub lower : p.row + 1 < h
+
+-- the crossings between a pixel and a neighbour, there and back: one at most
+unfoldable pub both_met : OutlineView → Ends Float → Pixel → Pixel → List Met
+both_met s e p q = pair_met s e (pair p q) ++ pair_met s e (pair q p)

@@ -9,13 +9,15 @@ ghost use Rattle.questions.specs.Laws.{Sized};
 ghost use Rattle.pixels.specs.Answer.{axis_of};
 ghost use Rattle.outlines.specs.Covered.{covers};
 ghost use Rattle.outlines.specs.Neighbours.{pair_axis};
-ghost use Rattle.outlines.specs.Answer.{ends_of, pixel_of, pair_of};
-ghost use Rattle.outline_views.specs.Outline.{outline_edge_at, project_edge, edges_project, edge_projects, pair_met, pixel_met, covered_met, shown_in, outline_view, exact_images, outline_code};
-ghost use Rattle.outline_views.specs.Steps.{SoundOutline, Inside, OffBorder};
+ghost use Rattle.outlines.specs.Answer.{ends_of, pixel_of};
+ghost use Rattle.outlines.specs.Leaf.{crossing_between};
+ghost use Rattle.pixels.specs.Pixel.{number_in, centre_of};
+ghost use Rattle.outline_views.specs.Outline.{outline_edge_at, project_edge, edges_project, edge_projects, met_at, pixel_met, covered_met, shown_in, outline_view, exact_images, outline_code};
+ghost use Rattle.outline_views.specs.Steps.{SoundOutline, Inside, OffBorder, both_met};
 
 use geometry::Projected;
 use outline_spans::Reach;
-use outlines::{Crossing, Ends, NeighbourPair};
+use outlines::{Crossing, Ends};
 use pixels::{Axis, ImageSize, Pixel};
 use questions::{Refusal, all_below, edge_slices_ok, sizes_ok};
 
@@ -187,28 +189,52 @@ impl Outline<'_> {
         self.pix2tri[self.size.number(p)] != questions::EMPTY
     }
 
-    // The crossing of an edge with the way from a pixel that shows a face to an empty neighbour.
-    #[tactic(auto, unfolding(crate::specs::Outline::pair_met, crate::specs::Outline::met_at))]
-    pub fn met(&self, e: Ends, r: NeighbourPair) -> Option<Met>
-        requires first_column { r.first.x < self.now.size.w }
-        requires first_row { r.first.y < self.now.size.h }
-        requires second_column { r.second.x < self.now.size.w }
-        requires second_row { r.second.y < self.now.size.h }
-        ensures met { mets_of result ≡ pair_met (seen_of self.now) (ends_of e) (pair_of r) }
+    // The crossing of an edge with the way between two neighbouring pixels, of which the first shows a face and the second is empty.
+    #[tactic(auto, unfolding(crate::specs::Outline::met_at))]
+    fn met(&self, e: Ends, first: Pixel, second: Pixel) -> Option<Met>
+        requires first_column { first.x < self.now.size.w }
+        requires first_row { first.y < self.now.size.h }
+        requires second_column { second.x < self.now.size.w }
+        requires second_row { second.y < self.now.size.h }
+        ensures met { mets_of result
+            ≡ met_at (number_in self.now.size.w (pixel_of first)) (number_in self.now.size.w (pixel_of second))
+            (crossing_between (centre_of (pixel_of first)) (centre_of (pixel_of second)) (ends_of e)) }
         ensures first { IfSome result (λ k. k.first < self.now.size.w * self.now.size.h) }
         ensures second { IfSome result (λ k. k.second < self.now.size.w * self.now.size.h) }
     {
-        if !self.shows(r.first) || self.shows(r.second) {
-            return None;
-        }
-        let c0 = pixels::centre_of(r.first);
-        let c1 = pixels::centre_of(r.second);
-        let crossing = outlines::crossing_between(c0, c1, e)?;
+        let crossing = outlines::crossing_between(
+            pixels::centre_of(first),
+            pixels::centre_of(second),
+            e,
+        )?;
         Some(Met {
-            first: self.size.number(r.first),
-            second: self.size.number(r.second),
+            first: self.size.number(first),
+            second: self.size.number(second),
             crossing,
         })
+    }
+
+    // The crossing between a pixel and a neighbour of it, whichever shows a face, if one alone does.
+    #[tactic(auto, using(crate::specs::Laws::met_nowhere))]
+    pub fn met_between(&self, e: Ends, p: Pixel, q: Pixel) -> Option<Met>
+        requires first_column { p.x < self.now.size.w }
+        requires first_row { p.y < self.now.size.h }
+        requires second_column { q.x < self.now.size.w }
+        requires second_row { q.y < self.now.size.h }
+        ensures met { mets_of result ≡ both_met (seen_of self.now) (ends_of e) (pixel_of p) (pixel_of q) }
+        ensures first { IfSome result (λ k. k.first < self.now.size.w * self.now.size.h) }
+        ensures second { IfSome result (λ k. k.second < self.now.size.w * self.now.size.h) }
+    {
+        if !self.shows(p) {
+            if !self.shows(q) {
+                return None;
+            }
+            return self.met(e, q, p);
+        }
+        if self.shows(q) {
+            return None;
+        }
+        self.met(e, p, q)
     }
 
     // Whether a pixel and its two neighbours along an axis do not all show a face, nor are all empty. Where not, no crossing is there.

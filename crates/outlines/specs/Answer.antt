@@ -5,14 +5,11 @@ use Rattle.std.proofs.Math.Option.{Option, none, some}
 use Rattle.geometry.specs.Answer.{point2}
 use Rattle.pixels.specs.Pixel as Pixel
 use Rattle.pixels.specs.Pixel.{pixel}
-use Rattle.pixels.specs.Edge as Edge
 use Rattle.pixels.specs.declared.Pixel as codeP
 use Rattle.outlines.specs.Formula as Formula
 use Rattle.outlines.specs.Formula.{ends}
-use Rattle.outlines.specs.Neighbours.{pair}
 use Rattle.outlines.specs.declared.Ends as codeE
 use Rattle.outlines.specs.declared.Crossing as codeC
-use Rattle.outlines.specs.declared.NeighbourPair as codeN
 
 abbrev pub ends_of : codeE.Ends → Formula.Ends Float
 ends_of e = ends (point2 e.q0) (point2 e.q1)
@@ -26,6 +23,3 @@ maybe_crossing (Some k) = some (crossing_in k)
 
 abbrev pub pixel_of : codeP.Pixel → Pixel.Pixel
 pixel_of p = pixel p.x p.y
-
-abbrev pub pair_of : codeN.NeighbourPair → Edge.Edge
-pair_of n = pair (pixel_of n.first) (pixel_of n.second)

@@ -10,7 +10,7 @@ ghost use Rattle.outlines.specs.Formula as formula;
 ghost use Rattle.outlines.specs.Leaf as leaf;
 ghost use Rattle.outlines.specs.Covered as covered;
 ghost use Rattle.outlines.specs.Neighbours as neighbours;
-ghost use Rattle.outlines.specs.Answer.{ends_of, crossing_in, maybe_crossing, pixel_of, pair_of};
+ghost use Rattle.outlines.specs.Answer.{ends_of, crossing_in, maybe_crossing, pixel_of};
 
 use geometry::Vec2;
 use pixels::{Axis, Pixel};
@@ -28,13 +28,6 @@ pub struct Crossing {
     pub d: f32,
     pub rc: f32,
     pub re: f32,
-}
-
-// A pixel and a neighbour of it, either first.
-#[derive(Clone, Copy)]
-pub struct NeighbourPair {
-    pub first: Pixel,
-    pub second: Pixel,
 }
 
 #[tactic(auto, unfolding(crate::specs::Formula::minus2))]
@@ -225,6 +218,7 @@ pub fn pair_axis(e: Ends) -> Axis
 pub fn before(axis: Axis, p: Pixel) -> Pixel
     requires right { axis.right ≤ p.x }
     requires down { axis.down ≤ p.y }
+    ensures pixel { pixel_of result ≡ neighbours.before (axis_of axis) (pixel_of p) }
     ensures column { result.x ≡ p.x - axis.right }
     ensures row { result.y ≡ p.y - axis.down }
 {
@@ -238,6 +232,7 @@ pub fn before(axis: Axis, p: Pixel) -> Pixel
 pub fn after(axis: Axis, p: Pixel) -> Pixel
     requires columns { p.x + axis.right < 4096 }
     requires rows { p.y + axis.down < 4096 }
+    ensures pixel { pixel_of result ≡ neighbours.after (axis_of axis) (pixel_of p) }
     ensures column { result.x ≡ p.x + axis.right }
     ensures row { result.y ≡ p.y + axis.down }
 {
@@ -245,26 +240,4 @@ pub fn after(axis: Axis, p: Pixel) -> Pixel
         x: p.x + axis.right,
         y: p.y + axis.down,
     }
-}
-
-// Number k of a pixel's four pairs: to its neighbour before and back, and to the one after and back.
-#[tactic(auto, unfolding(crate::specs::Neighbours::neighbour_pair))]
-pub fn neighbour_pair(axis: Axis, p: Pixel, k: usize) -> NeighbourPair
-    requires right { axis.right ≤ p.x }
-    requires down { axis.down ≤ p.y }
-    requires columns { p.x + axis.right < 4096 }
-    requires rows { p.y + axis.down < 4096 }
-    ensures pair { pair_of result ≡ neighbours.neighbour_pair (axis_of axis) (pixel_of p) k }
-    ensures first_column { result.first.x ≤ p.x + axis.right }
-    ensures first_row { result.first.y ≤ p.y + axis.down }
-    ensures second_column { result.second.x ≤ p.x + axis.right }
-    ensures second_row { result.second.y ≤ p.y + axis.down }
-{
-    let (first, second) = match k {
-        0 => (p, before(axis, p)),
-        1 => (before(axis, p), p),
-        2 => (p, after(axis, p)),
-        _ => (after(axis, p), p),
-    };
-    NeighbourPair { first, second }
 }

@@ -13,10 +13,10 @@ use Rattle.sequences.proofs.Thinned.{alike}
 use Rattle.sequences.specs.Case.{Case, faces}
 use Rattle.sequences.proofs.Case.{pictures, mesh_answered, full_is, final-renumbered}
 use Rattle.labels.specs.Labels.{labelling}
-use Rattle.theorems.proofs.Passes.{values_same, values_bwd_same, edge_types_same, edge_bwd_same}
+use Rattle.theorems.proofs.Passes.{values_same, values_bwd_same, edge_types_same, edge_bwd_same, smoothing_same, smoothing_bwd_same}
 use Rattle.theorems.proofs.Labels.{labels_thinned}
 use Rattle.theorems.specs.Gradients.{Unnamed}
-use Rattle.theorems.proofs.Gradients.{values_bwd_keeps_xyz, values_bwd_keeps_val, edge_bwd_keeps}
+use Rattle.theorems.proofs.Gradients.{values_bwd_keeps_xyz, values_bwd_keeps_val, edge_bwd_keeps, outline_keeps}
 use Rattle.theorems.specs.Demand3.{whole_slice, whole_map, kept_slice, kept_map, Passes, Untouched, Labels, Demand3}
 
 -- no pass over as many vertices can tell the two apart
@@ -36,7 +36,14 @@ alike_lists c xyz e =
 passes : (c : Case) (xyz : List Float) → length xyz ≡ length c.mesh.sc.vertices → Passes c xyz
 passes c xyz e =
     let a = alike_lists c xyz e in
-    record { values = values_same xyz a; values_bwd = values_bwd_same xyz a; edge_types = edge_types_same xyz a; edges_bwd = edge_bwd_same xyz a }
+    record {
+      values = values_same xyz a;
+      values_bwd = values_bwd_same xyz a;
+      edge_types = edge_types_same xyz a;
+      edges_bwd = edge_bwd_same xyz a;
+      smoothing = smoothing_same xyz a;
+      smoothing_bwd = smoothing_bwd_same xyz a;
+    }
 
 untouched : (tri names : List ℕ) (v : ℕ) → Unnamed tri names v → Untouched tri names v
 untouched tri names v free =
@@ -55,4 +62,4 @@ labels c t e w h picture =
     ∙ sym (ap (λ (l : Layer). labelling l.pix2tri kept w h picture) (final-renumbered c ∙ ap (renumbered (renumber empty m.keep)) (full_is m)))
 
 pub demand3 : Demand3
-demand3 = record { pictures_same = pictures; passes_same = passes; labels_same = labels; gradients_kept = untouched }
+demand3 = record { pictures_same = pictures; passes_same = passes; labels_same = labels; gradients_kept = untouched; outline_gradients_kept = outline_keeps }

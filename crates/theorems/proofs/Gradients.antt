@@ -1,4 +1,5 @@
--- Sums leave every place alone that no addition names: a vertex that is a corner of no face in the map keeps its gradients.
+-- Sums leave every place alone that no addition names: a vertex that is a corner of no face in the map keeps its gradients, and one that is an end of no outline edge keeps that of
+-- outline smoothing.
 use Rattle.std.specs.Prelude.{ℕ, zero, suc, ◌+◌, ◌*◌, ◌/◌, ◌<◌, ◌≡◌, refl, ◌⊎◌, Bool, true, false, cond, eqb, ltb, Float, length, get_or}
 use Rattle.std.proofs.Common.{sym, ◌∙◌, subst, inl, inr, arith, eqb-true, lit<, get_or-set_other}
 use Rattle.std.proofs.Math.Path.{ap}
@@ -41,7 +42,11 @@ use Rattle.axis_bwd.specs.Additions.{edge_down, axis_additions}
 use Rattle.edge_bwd.specs.Calls as edges
 use Rattle.edge_bwd.specs.Calls.{pass_additions, edge_bwd}
 use Rattle.edge_bwd.specs.Laws as edges_laws
-use Rattle.theorems.specs.Gradients.{Free, Unnamed}
+use Rattle.outlines.specs.Formula.{Ends}
+use Rattle.outline_views.specs.Outline.{OutlineView, OutlineEdge, outline_edge_at, edge_total, Met, edge_met, edge_items, outline_items}
+use Rattle.antialias_bwd.specs.Additions.{at_vertex, to_ends, met_additions, crossing_additions}
+use Rattle.antialias_bwd.specs.Calls.{bwd_antialias_code, outline_additions, antialiasing_bwd}
+use Rattle.theorems.specs.Gradients.{Free, Unnamed, NoEnd, OffOutline}
 
 -- ---- as an accepted pass sees the map
 
@@ -168,20 +173,21 @@ module _ (tri names : List ℕ) (v : ℕ) (free : Unnamed tri names v) (g : Imag
       (λ e. untouched old.val _ (v * s.channels + k) nan
       (avoids_all (v * s.channels + k) _ (span 0 (g.w * g.h)) (λ p m. pixel_val_avoids v s _ k h ((view_of tri names).at p) (ray_of g p) (accepted_unseen e p))))
 
+-- additions to the three coordinates of another vertex
+vertex_avoid : (v k : ℕ) → k < 3 → (u : ℕ) → (v ≡ u → ⊥) → (g : Vec3 Float) → Avoids (v * 3 + k) (at_vertex u g)
+unfolding at_vertex
+vertex_avoid v k h u n g a (Memᴰ.head p) e = let q = e ∙ ap (λ (x : Addition). x.place) p in n (omega arith)
+vertex_avoid v k h u n g a (Memᴰ.tail (Memᴰ.head p)) e = let q = e ∙ ap (λ (x : Addition). x.place) p in n (omega arith)
+vertex_avoid v k h u n g a (Memᴰ.tail (Memᴰ.tail (Memᴰ.head p))) e = let q = e ∙ ap (λ (x : Addition). x.place) p in n (omega arith)
+vertex_avoid v k h u n g a (Memᴰ.tail (Memᴰ.tail (Memᴰ.tail m))) e = Memᴰ.not-nil m
+
 -- ---- the edge gradient's backward pass
 
 module _ (f : Face) (v : ℕ) (not-corner : Free f v) (k : ℕ) (h : k < 3) where
-  vertex_avoid : (u : ℕ) → (v ≡ u → ⊥) → (b : Float) (g : Vec3 Float) → Avoids (v * 3 + k) (to_vertex u b g)
-  unfolding to_vertex
-  vertex_avoid u n b g a (Memᴰ.head p) e = let q = e ∙ ap (λ (x : Addition). x.place) p in n (omega arith)
-  vertex_avoid u n b g a (Memᴰ.tail (Memᴰ.head p)) e = let q = e ∙ ap (λ (x : Addition). x.place) p in n (omega arith)
-  vertex_avoid u n b g a (Memᴰ.tail (Memᴰ.tail (Memᴰ.head p))) e = let q = e ∙ ap (λ (x : Addition). x.place) p in n (omega arith)
-  vertex_avoid u n b g a (Memᴰ.tail (Memᴰ.tail (Memᴰ.tail m))) e = Memᴰ.not-nil m
-
   face_avoid : (b : Weights Float) (g : Vec3 Float) → Avoids (v * 3 + k) (to_face f b g)
-  unfolding to_face
+  unfolding to_face to_vertex at_vertex
   face_avoid b g =
-      avoids_append _ _ _ (vertex_avoid f.v0 not-corner.0 b.b0 g) (avoids_append _ _ _ (vertex_avoid f.v1 not-corner.1 b.b1 g) (vertex_avoid f.v2 not-corner.2 b.b2 g))
+      avoids_append _ _ _ (vertex_avoid v k h f.v0 not-corner.0 _) (avoids_append _ _ _ (vertex_avoid v k h f.v1 not-corner.1 _) (vertex_avoid v k h f.v2 not-corner.2 _))
 
   spread_avoid : (m : List Float) (x : Triangle (Vec3 Float)) (g : Vec3 Float) (b : Option (Weights Float)) → Avoids (v * 3 + k) (spread m x f g b)
   unfolding spread
@@ -265,3 +271,22 @@ module _ (tri names : List ℕ) (v k : ℕ) (h : k < 3) (mat xyz : List Float) (
       axis_avoid : edges.bwd_code tri names height (edge_view (view_of tri names) mat xyz w) vals dxyz ≡ 0 → (a : Axis) → Avoids (v * 3 + k) (axis_additions a height (edge_view (view_of tri names) mat xyz w) vals)
       axis_avoid e a =
           avoids_all (v * 3 + k) _ _ (λ j m. pair_avoid (unseen tri names v free (edges_laws.bwd_accepted tri names height _ vals dxyz (sym e)).image.named) a (edge_down a height j))
+
+-- ---- outline smoothing's backward pass
+
+module _ (s : OutlineView) (v : ℕ) (off : OffOutline s.edges v) (map : List ℕ) (val dldw dxyz : List Float) (k : ℕ) (h : k < 3) where
+  abbrev adds : OutlineEdge → Ends Float → Met → List Addition
+  adds = crossing_additions s.matrix s.vertices val dldw
+
+  edge_avoid : (d : OutlineEdge) → NoEnd d v → (o : Option (Ends Float)) → Avoids (v * 3 + k) (edge_items adds s d o)
+  unfolding edge_items crossing_additions met_additions to_ends
+  edge_avoid d n none = λ a m e. Memᴰ.not-nil m
+  edge_avoid d n (some e) =
+      avoids_all (v * 3 + k) _ (edge_met s e) (λ t m. avoids_append _ _ _ (vertex_avoid v k h d.v0 n.0 _) (vertex_avoid v k h d.v1 n.1 _))
+
+  pub outline_keeps : get_or (antialiasing_bwd s map val dldw dxyz).left (v * 3 + k) nan ≡ get_or dxyz (v * 3 + k) nan
+  unfolding antialiasing_bwd outline_additions outline_items
+  outline_keeps =
+      kept_at (λ (l : List Float). l) (bwd_antialias_code s map val dldw dxyz) dxyz _ (v * 3 + k)
+      (λ e. untouched dxyz _ (v * 3 + k) nan
+      (avoids_all (v * 3 + k) _ (span 0 (edge_total s)) (λ j m. edge_avoid (outline_edge_at s.edges j) (off j (omega (arith, span_below 0 (edge_total s) j m))) _)))

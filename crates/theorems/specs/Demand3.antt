@@ -10,8 +10,11 @@
 --   offers, Holds, Shows        the offers at a pixel and what it shows, defined without drawing (rules Offers, offers Offers)
 --   clearing, joining, draws, draw_code                        the outcomes of the three calls, cited by their contracts (layers Calls, rules Calls)
 --   interpolating, interpolating_bwd, edge_typing, edge_bwd    those of the four passes (values Interpolate, values_bwd Bwd, edges Calls, edge_bwd Calls)
+--   OutlineView, outline_view, shown_in                        what the two passes of outline smoothing see: of a map, which pixels show a face (outline_views Outline)
+--   antialiasing, antialiasing_bwd                             their outcomes (antialias Calls, antialias_bwd Calls)
 --   labelling                   that of the picture of body numbers (labels Labels)
 --   Free, Unnamed               a vertex that is a corner of no face that an entry names (Gradients)
+--   NoEnd, OffOutline           a vertex that is an end of no outline edge (Gradients)
 use Rattle.std.specs.Prelude.{ℕ, ◌+◌, ◌*◌, ◌<◌, ◌≡◌, List, Float, length, get_or}
 use Rattle.std.specs.Float.{nan}
 use Rattle.offers.specs.Thinning.{kept_from}
@@ -28,7 +31,10 @@ use Rattle.pairs.specs.Pairs.{edge_view}
 use Rattle.pairs.specs.Gradient.{PixelValues}
 use Rattle.edges.specs.Calls.{EdgeBuffers, edge_typing}
 use Rattle.edge_bwd.specs.Calls.{edge_bwd}
-use Rattle.theorems.specs.Gradients.{Unnamed}
+use Rattle.outline_views.specs.Outline.{OutlineView, outline_view, shown_in}
+use Rattle.antialias.specs.Calls.{antialiasing}
+use Rattle.antialias_bwd.specs.Calls.{antialiasing_bwd}
+use Rattle.theorems.specs.Gradients.{Unnamed, OffOutline}
 
 -- the face slice and the map of the whole mesh, and of what is kept of it
 abbrev pub whole_slice : Case → List ℕ
@@ -56,8 +62,15 @@ pub record Passes (c : Case) (xyz : List Float) : Type 0 where
   pub edges_bwd : (m : List Float) (w h : ℕ) (v : PixelValues) (dxyz : List Float)
       → edge_bwd (whole_slice c) (whole_map c) h (edge_view (view_of (whole_slice c) (whole_map c)) m xyz w) v dxyz
       ≡ edge_bwd (kept_slice c) (kept_map c) h (edge_view (view_of (kept_slice c) (kept_map c)) m xyz w) v dxyz
+  -- 02, Point 1: outline smoothing takes no faces; the outline edges are the same on both sides
+  pub smoothing : (edges : List ℕ) (m : List Float) (w h : ℕ) (vin vout : List Float)
+      → antialiasing (outline_view (shown_in (whole_map c)) edges m xyz w h) (whole_map c) vin vout
+      ≡ antialiasing (outline_view (shown_in (kept_map c)) edges m xyz w h) (kept_map c) vin vout
+  pub smoothing_bwd : (edges : List ℕ) (m : List Float) (w h : ℕ) (val dldw dxyz : List Float)
+      → antialiasing_bwd (outline_view (shown_in (whole_map c)) edges m xyz w h) (whole_map c) val dldw dxyz
+      ≡ antialiasing_bwd (outline_view (shown_in (kept_map c)) edges m xyz w h) (kept_map c) val dldw dxyz
 
--- Whatever the map, a vertex of no face in it keeps its gradients in both backward passes, in a refused call too.
+-- Whatever the map, a vertex of no face in it keeps its gradients in 01's two backward passes, in a refused call too.
 pub record Untouched (tri names : List ℕ) (v : ℕ) : Type 0 where
   pub values_bwd_xyz : (g : Image) (s : Vertices) (dldw : List Float) (old : Sums) (k : ℕ) → k < 3
       → get_or (interpolating_bwd g s tri names dldw old).left.xyz (v * 3 + k) nan ≡ get_or old.xyz (v * 3 + k) nan
@@ -65,6 +78,12 @@ pub record Untouched (tri names : List ℕ) (v : ℕ) : Type 0 where
       → get_or (interpolating_bwd g s tri names dldw old).left.val (v * s.channels + k) nan ≡ get_or old.val (v * s.channels + k) nan
   pub edges_bwd : (m xyz : List Float) (w h : ℕ) (vals : PixelValues) (dxyz : List Float) (k : ℕ) → k < 3
       → get_or (edge_bwd tri names h (edge_view (view_of tri names) m xyz w) vals dxyz).left (v * 3 + k) nan ≡ get_or dxyz (v * 3 + k) nan
+
+-- 02, Point 1: outline smoothing backward keeps those of a vertex of no outline edge, whatever the map and whichever pixels show a face, in a refused call too. "Here, unlike in 01's
+-- two backward passes, the ends of an outline edge may gain gradient though no face in the map has them": `not_in_map` and `ends_gain` of Examples Outlines are an instance.
+abbrev pub OutlineKept : OutlineView → ℕ → Type 0
+OutlineKept s v = (map : List ℕ) (val dldw dxyz : List Float) (k : ℕ) → k < 3
+    → get_or (antialiasing_bwd s map val dldw dxyz).left (v * 3 + k) nan ≡ get_or dxyz (v * 3 + k) nan
 
 -- 02, Point 10: the picture of body numbers, with the table thinned as the list is, whatever size is asked for and whatever the picture held
 abbrev pub Labels : Case → List ℕ → Type 0
@@ -77,3 +96,4 @@ pub record Demand3 : Type 0 where
   pub passes_same : (c : Case) (xyz : List Float) → length xyz ≡ length c.mesh.sc.vertices → Passes c xyz
   pub labels_same : (c : Case) (tri2body : List ℕ) → length tri2body ≡ length (faces c.mesh) → Labels c tri2body
   pub gradients_kept : (tri names : List ℕ) (v : ℕ) → Unnamed tri names v → Untouched tri names v
+  pub outline_gradients_kept : (s : OutlineView) (v : ℕ) → OffOutline s.edges v → OutlineKept s v

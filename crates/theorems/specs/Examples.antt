@@ -2,6 +2,7 @@
 -- that the contracts cite. A layer is given with its weights (02, Point 9): `in_t` has those of T(z) at the four pixels (sequences Example).
 pub mod Values
 pub mod Edges
+pub mod Outlines
 pub mod Floats
 pub mod Load
 pub mod Visits
