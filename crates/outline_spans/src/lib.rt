@@ -66,11 +66,15 @@ impl Reach {
     {
         let x = self.e.q0.x + (pixels::as_float(y) - self.e.q0.y) * self.slope;
         let next = x + self.slope;
+        let (left, right) = if self.slope < 0.0 {
+            (next, x)
+        } else {
+            (x, next)
+        };
+        let end = pixels::nearest_held(right + 0.515625, self.columns.end);
         Span {
-            start: pixels::nearest_held(x.min(next) - 0.515625, self.columns.end),
-            end: pixels::nearest_held(x.max(next) + 0.515625, self.columns.end).max(
-                self.columns.start,
-            ),
+            start: pixels::nearest_held(left - 0.515625, self.columns.end),
+            end: end.max(self.columns.start),
         }
     }
 
