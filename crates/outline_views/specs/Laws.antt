@@ -1,13 +1,13 @@
 -- Where no crossing is, and an edge's crossings row by row.
-use Rattle.std.specs.Prelude.{ℕ, ◌+◌, ◌-◌, ◌*◌, ◌/◌, ◌%◌, ◌≤◌, ◌<◌, ◌≡◌, refl, ◌⊎◌, Bool, true, false, not, ◌&&◌, cond, ltb, List, [], ◌∷◌, Float, length}
+use Rattle.std.specs.Prelude.{ℕ, ◌+◌, ◌-◌, ◌*◌, ◌/◌, ◌%◌, ◌≤◌, ◌<◌, ◌≡◌, refl, ◌⊎◌, Bool, true, false, not, ◌&&◌, cond, ltb, List, [], Float, length}
 use Rattle.std.specs.List.{fold}
-use Rattle.std.proofs.Common.{sym, ◌∙◌, ap, ap₂, inl, inr, zero-add, arith, ltb-true, lt-ltb, le-ltb, mul_comm}
+use Rattle.std.proofs.Common.{sym, ◌∙◌, ap, ap₂, inl, inr, arith, ltb-true, lt-ltb, le-ltb, mul_comm}
 use Rattle.std.proofs.lemmas.Bool.{lt-leb}
 use Rattle.std.proofs.Math.Bool.{and-false}
 use mathlib.Core.List.{◌++◌, flat_map, append_assoc, append-nil}
 use Rattle.lists.specs.Lists.{tabulate, span}
-use Rattle.lists.specs.Laws.Turns.{flat_map-add, turns_same, turns_nothing, turns_by_rows}
-use Rattle.lists.specs.Laws.Folds.{folded_then, folds_none, folds_add, folds_one}
+use Rattle.lists.specs.Laws.Turns.{flat_map-append, flat_map-flat, turns_same, turns_nothing, turns_amid, turns_by_rows}
+use Rattle.lists.specs.Laws.Folds.{folded_then}
 use Rattle.lists.specs.Laws.Tests.{both}
 use Rattle.questions.specs.Questions.{sizes, edge_slices, exact}
 use Rattle.questions.specs.Laws.{accepted, exactly}
@@ -86,16 +86,6 @@ images_passed w h map a b e =
 
 -- ---- lists of what is brought
 
-flat_map_append : {A B : Type 0} (g : A → List B) (xs ys : List A) → flat_map g (xs ++ ys) ≡ flat_map g xs ++ flat_map g ys
-unfolding flat_map
-flat_map_append g [] ys = refl
-flat_map_append {B = B} g (x ∷ xs) ys = ap (λ (t : List B). g x ++ t) (flat_map_append g xs ys) ∙ sym (append_assoc (g x) (flat_map g xs) (flat_map g ys))
-
-flat_map_flat : {A B : Type 0} (g : A → List B) (f : ℕ → List A) (xs : List ℕ) → flat_map g (flat_map f xs) ≡ flat_map (λ i. flat_map g (f i)) xs
-unfolding flat_map
-flat_map_flat g f [] = refl
-flat_map_flat {B = B} g f (x ∷ xs) = flat_map_append g (f x) (flat_map f xs) ∙ ap (λ (t : List B). flat_map g (f x) ++ t) (flat_map_flat g f xs)
-
 four_pairs : (s : OutlineView) (e : Ends Float) (a : Axis) (p : Pixel)
     → flat_map (λ k. pair_met s e (neighbour_pair a p k)) (span 0 4) ≡ both_met s e p (before a p) ++ both_met s e p (after a p)
 unfolding both_met neighbour_pair flat_map tabulate
@@ -105,19 +95,6 @@ four_pairs s e a p =
     let on = pair_met s e (pair p (after a p)) in
     let home = pair_met s e (pair (after a p) p) in
     ap (λ (ms : List Met). there ++ (back ++ (on ++ ms))) (append-nil home) ∙ sym (append_assoc there back (on ++ home))
-
--- turns from a on up to b, where the others of n bring nothing
-turns_amid : {B : Type 0} (f : ℕ → List B) (n a b : ℕ) → a ≤ b → b ≤ n → ((i : ℕ) → i < n → i < a → f i ≡ []) → ((i : ℕ) → i < n → b ≤ i → f i ≡ [])
-    → flat_map f (span 0 n) ≡ flat_map f (span a (b - a))
-turns_amid {B} f n a b h k early late =
-    let e : n ≡ a + ((b - a) + (n - b)) = omega arith in
-    let m : 0 + a + (b - a) ≡ b = omega arith in
-    ap (λ (i : ℕ). flat_map f (span 0 i)) e
-    ∙ flat_map-add f 0 a ((b - a) + (n - b))
-    ∙ ap₂ ◌++◌ (turns_nothing f 0 a (λ i l. early (0 + i) (omega arith) (omega arith))) (flat_map-add f (0 + a) (b - a) (n - b))
-    ∙ ap (λ (t : List B). flat_map f (span (0 + a) (b - a)) ++ t) (turns_nothing f (0 + a + (b - a)) (n - b) (λ i l. late (0 + a + (b - a) + i) (omega arith) (omega arith)))
-    ∙ append-nil (flat_map f (span (0 + a) (b - a)))
-    ∙ ap (λ (i : ℕ). flat_map f (span i (b - a))) (zero-add a)
 
 turns_out : {B : Type 0} (f : ℕ → List B) (n a b : ℕ) → b ≤ a → ((i : ℕ) → i < n → f i ≡ []) → flat_map f (span 0 n) ≡ flat_map f (span a (b - a))
 unfolding flat_map tabulate
@@ -137,27 +114,12 @@ turns_narrowed f n a b h none = go (below_or a b)
     late i l k = none i l (rw (le-ltb i b k) (and-false _))
 
     go : (a < b) ⊎ (b ≤ a) → flat_map f (span 0 n) ≡ flat_map f (span a (b - a))
-    go (inl k) = turns_amid f n a b (omega arith) h early late
+    go (inl k) = turns_amid f n a b (omega arith) h (λ i l. early i (omega arith) l) late
     go (inr k) = turns_out f n a b k (λ i l. split i l (below_or i a))
       where
         split : (i : ℕ) → i < n → (i < a) ⊎ (a ≤ i) → f i ≡ []
         split i l (inl m) = early i l m
         split i l (inr m) = late i l (omega arith)
-
--- a loop from a on: before its first turn
-pub folds_first : {S A : Type 0} (step : S → A → S) (f : ℕ → List A) (s : S) (a : ℕ) → s ≡ fold step s (flat_map f (span a (a - a)))
-folds_first step f s a = let e : 0 ≡ a - a = omega arith in folds_none step f s a ∙ ap (λ (n : ℕ). fold step s (flat_map f (span a n))) e
-
--- and turn x of it
-pub folds_next : {S A : Type 0} (step : S → A → S) (f : ℕ → List A) (s : S) (a x : ℕ) {cur new : S} → a ≤ x → cur ≡ fold step s (flat_map f (span a (x - a))) → new ≡ fold step cur (f x)
-    → new ≡ fold step s (flat_map f (span a (x + 1 - a)))
-folds_next {S} step f s a x {cur} h e next =
-    let k : a + (x - a) ≡ x = omega arith in
-    let l : x - a + 1 ≡ x + 1 - a = omega arith in
-    next
-    ∙ ap (λ (t : S). fold step t (f x)) e
-    ∙ sym (folds_add step f s a (x - a) 1 ∙ folds_one step f (fold step s (flat_map f (span a (x - a)))) (a + (x - a)) ∙ ap (λ (i : ℕ). fold step (fold step s (flat_map f (span a (x - a)))) (f i)) k)
-    ∙ ap (λ (i : ℕ). fold step s (flat_map f (span a i))) l
 
 -- the loop's end, where the turns out of its range bring nothing
 pub folds_narrowed : {S A : Type 0} (step : S → A → S) (f : ℕ → List A) (s : S) (n a b x : ℕ) {cur : S} → b ≤ n → ((i : ℕ) → i < n → in_range a b i ≡ false → f i ≡ []) → x - a ≡ b - a
@@ -188,7 +150,7 @@ module _ {B : Type 0} (g : Met → List B) (s : OutlineView) (e : Ends Float) wh
   pub met_by_rows : flat_map g (edge_met s e) ≡ flat_map row_items (span 0 s.height)
   unfolding edge_met by_number
   met_by_rows =
-      flat_map_flat g (λ n. covered_met s e (pixel (n % s.width) (n / s.width))) (span 0 (s.width * s.height))
+      flat_map-flat g (λ n. covered_met s e (pixel (n % s.width) (n / s.width))) (span 0 (s.width * s.height))
       ∙ ap (λ (n : ℕ). flat_map by_number (span 0 n)) (mul_comm s.width s.height)
       ∙ turns_by_rows by_number row_items s.width s.height one_row
 
@@ -197,7 +159,7 @@ module _ {B : Type 0} (g : Met → List B) (s : OutlineView) (e : Ends Float) wh
       → flat_map g (pixel_met s e p) ≡ flat_map g (both_met s e p (before a p)) ++ flat_map g (both_met s e p (after a p))
   unfolding pixel_met
   pixel_by_neighbours a p same =
-      rw same (ap (flat_map g) (four_pairs s e (pair_axis e) p) ∙ flat_map_append g (both_met s e p (before (pair_axis e) p)) (both_met s e p (after (pair_axis e) p)))
+      rw same (ap (flat_map g) (four_pairs s e (pair_axis e) p) ∙ flat_map-append g (both_met s e p (before (pair_axis e) p)) (both_met s e p (after (pair_axis e) p)))
 
   -- where the edge does not cover a pixel it brings nothing, nor on the border
   uncovered : (p : Pixel) → within_border s.width s.height p && covers e p ≡ false → flat_map g (covered_met s e p) ≡ []

@@ -2,7 +2,8 @@ use Prim.Native.Nat.{ℕ}
 use mathlib.Core.List.{List}
 use native.Mathlib.Omega.{arith}
 use Rattle.outlines.specs.Answer.{ends_of}
-use Rattle.outline_views.specs.Laws.{row_items, folds_first, folds_next, edge_ended}
+use Rattle.lists.specs.Laws.Folds.{folds_first, folds_next}
+use Rattle.outline_views.specs.Laws.{row_items, edge_ended}
 use Rattle.outline_views.specs.Answer.{seen_of}
 use Rattle.antialias.specs.Smoothing.{Write, wrote, written, writes}
 use Rattle.antialias.specs.Laws.{as_long}

@@ -4,7 +4,8 @@ use mathlib.Core.List.{List}
 use native.Mathlib.Omega.{arith}
 use Rattle.meshes.specs.Sums.{Addition, added, summed}
 use Rattle.outlines.specs.Answer.{ends_of}
-use Rattle.outline_views.specs.Laws.{row_items, folds_first, folds_next, edge_ended}
+use Rattle.lists.specs.Laws.Folds.{folds_first, folds_next}
+use Rattle.outline_views.specs.Laws.{row_items, edge_ended}
 use Rattle.outline_views.specs.Answer.{seen_of}
 use Rattle.antialias_bwd.specs.Answer.{brought, ready_still}
 use Rattle.antialias_bwd.specs.Laws.{as_long}

@@ -1,18 +1,17 @@
 -- The entries of a list that pass a test, counted and in order; and loops of which only some turns bring something.
-use Prim.Native.Nat.{ℕ, zero, suc, ◌+◌, ◌-◌, ◌≤◌, ◌<◌}
+use Prim.Native.Nat.{ℕ, zero, suc, ◌+◌, ◌-◌, ◌≤◌}
 use Rattle.std.specs.Prelude.{◌≡◌, Bool, ◌&&◌, leb, ltb, eqb}
-use Rattle.std.proofs.Math.Path.{refl, sym, ap, ap₂}
+use Rattle.std.proofs.Math.Path.{refl, sym, ap}
 use Rattle.std.proofs.Common.{◌∙◌, zero-add, ltb-true, ltb-false, lt-ltb, le-ltb, le-leb, eqb-true, eq-eqb, ne_eqb}
 use Rattle.std.proofs.Math.Bool.{true, false, cond}
-use mathlib.Core.List.{List, [], ◌∷◌, ◌++◌, flat_map, append-nil}
-use Rattle.std.proofs.Math.Nat.{add-zero}
+use mathlib.Core.List.{List, [], ◌∷◌, ◌++◌, flat_map}
 use native.Mathlib.Omega.{arith}
 use Rattle.std.proofs.lemmas.Bool.{lt-leb}
 use Rattle.std.proofs.lemmas.List.Elements.{filter-append}
 use Rattle.std.proofs.Math.ListN.{length}
 use Rattle.lists.specs.Lists.{tabulate, span, filter, sum_of, count}
 use Rattle.lists.specs.Laws.Sums.{sum_none, sum_more, count_none, count-more, count-both, count_alike, count-from}
-use Rattle.lists.specs.Laws.Turns.{flat_map-add}
+use Rattle.lists.specs.Laws.Turns.{turns_same, turns_amid}
 
 -- ---- sums and counts
 
@@ -90,20 +89,6 @@ count-filter test p (x ∷ xs) = go (test x) (eqb p x) refl refl (count-filter t
 -- ---- turns over numbers in a row
 
 module _ {B : Type 0} where
-  -- the same in each turn
-  pub flat_map_same : (f g : ℕ → List B) (a n : ℕ) → ((i : ℕ) → i < n → f (a + i) ≡ g (a + i)) → flat_map f (span a n) ≡ flat_map g (span a n)
-  unfolding flat_map tabulate
-  flat_map_same f g a zero e = refl
-  flat_map_same f g a (suc n) e =
-      ap₂ ◌++◌ (rw add-zero at (e 0 (omega arith)))
-      (flat_map_same f g (suc a) n (λ i h. let k : suc a + i ≡ a + suc i = omega arith in rw k (e (suc i) (omega arith))))
-
-  -- nothing in any
-  pub flat_map-nothing : (a n : ℕ) → flat_map {B = B} (λ i. []) (span a n) ≡ []
-  unfolding flat_map tabulate
-  flat_map-nothing a zero = refl
-  flat_map-nothing a (suc n) = flat_map-nothing (suc a) n
-
   -- one entry in each
   pub flat_map_single : (f : ℕ → B) (a n : ℕ) → flat_map (λ i. f i ∷ []) (span a n) ≡ tabulate f a n
   unfolding flat_map tabulate
@@ -113,22 +98,8 @@ module _ {B : Type 0} where
   -- something only in those from a up to, and without, b, of n
   pub flat_map_range : (f : ℕ → List B) (a b n : ℕ) → a ≤ b → b ≤ n → flat_map (λ i. cond (leb a i && ltb i b) (f i) []) (span 0 n) ≡ flat_map f (span a (b - a))
   flat_map_range f a b n h l =
-      ap (λ (k : ℕ). flat_map g (span 0 k)) parts
-      ∙ flat_map-add g 0 a (b - a + (n - b))
-      ∙ ap₂ ◌++◌ before (flat_map-add g (0 + a) (b - a) (n - b) ∙ ap₂ ◌++◌ among after ∙ append-nil _)
-      ∙ ap (λ (k : ℕ). flat_map f (span k (b - a))) (zero-add a)
+      turns_amid g n a b h l (λ i j. rw (lt-leb a i j)) (λ i j k. rw (le-leb a i (omega arith), le-ltb i b k))
+      ∙ turns_same g f a a (b - a) (λ i j. rw (le-leb a (a + i) (omega arith), lt-ltb (a + i) b (omega arith)))
     where
       g : ℕ → List B
       g i = cond (leb a i && ltb i b) (f i) []
-
-      parts : n ≡ a + (b - a + (n - b))
-      parts = omega arith
-
-      before : flat_map g (span 0 a) ≡ []
-      before = flat_map_same g (λ i. []) 0 a (λ i j. rw (lt-leb a (0 + i) (omega arith))) ∙ flat_map-nothing 0 a
-
-      among : flat_map g (span (0 + a) (b - a)) ≡ flat_map f (span (0 + a) (b - a))
-      among = flat_map_same g f (0 + a) (b - a) (λ i j. rw (le-leb a (0 + a + i) (omega arith), lt-ltb (0 + a + i) b (omega arith)))
-
-      after : flat_map g (span (0 + a + (b - a)) (n - b)) ≡ []
-      after = flat_map_same g (λ i. []) (0 + a + (b - a)) (n - b) (λ i j. rw (le-leb a (0 + a + (b - a) + i) (omega arith), le-ltb (0 + a + (b - a) + i) b (omega arith))) ∙ flat_map-nothing _ (n - b)

@@ -1,7 +1,7 @@
 -- What the turns of a loop do to a value, one step for each item that they bring.
-use Rattle.std.specs.Prelude.{ℕ, ◌+◌, ◌≤◌, ◌≡◌}
+use Rattle.std.specs.Prelude.{ℕ, ◌+◌, ◌-◌, ◌≤◌, ◌≡◌}
 use Rattle.std.proofs.Math.Path.{sym, ap}
-use Rattle.std.proofs.Common.{◌∙◌, zero-add, arith}
+use Rattle.std.proofs.Common.{◌∙◌, arith}
 use Rattle.std.specs.List.{fold}
 use Rattle.std.proofs.lemmas.List.Sums.{fold-append}
 use mathlib.Core.List.{List, ◌++◌, flat_map}
@@ -24,14 +24,27 @@ module _ {S A : Type 0} (step : S → A → S) where
     pub folds_one : (p : ℕ) → fold step s (flat_map f (span p 1)) ≡ fold step s (f p)
     folds_one p = ap (fold step s) (flat_map-one f p)
 
+  -- a loop from a on: before its first turn, and after turn x
+  pub folds_first : (f : ℕ → List A) (s : S) (a : ℕ) → s ≡ fold step s (flat_map f (span a (a - a)))
+  folds_first f s a = let e : 0 ≡ a - a = omega arith in folds_none f s a ∙ ap (λ (n : ℕ). fold step s (flat_map f (span a n))) e
+
+  pub folds_next : (f : ℕ → List A) (s : S) (a x : ℕ) {cur new : S} → a ≤ x → cur ≡ fold step s (flat_map f (span a (x - a))) → new ≡ fold step cur (f x)
+      → new ≡ fold step s (flat_map f (span a (x + 1 - a)))
+  folds_next f s a x {cur} h e next =
+      let k : a + (x - a) ≡ x = omega arith in
+      let l : x - a + 1 ≡ x + 1 - a = omega arith in
+      next
+      ∙ ap (λ (t : S). fold step t (f x)) e
+      ∙ sym (folds_add f s a (x - a) 1 ∙ folds_one f (fold step s (flat_map f (span a (x - a)))) (a + (x - a)) ∙ ap (λ (i : ℕ). fold step (fold step s (flat_map f (span a (x - a)))) (f i)) k)
+      ∙ ap (λ (i : ℕ). fold step s (flat_map f (span a i))) l
+
   -- turn j of a loop from 0 on
   pub folds_more : (f : ℕ → List A) (s : S) (j : ℕ) {cur new : S} → cur ≡ fold step s (flat_map f (span 0 j)) → new ≡ fold step cur (f j)
       → new ≡ fold step s (flat_map f (span 0 (j + 1)))
   folds_more f s j {cur} e next =
-      next
-      ∙ ap (λ (t : S). fold step t (f j)) e
-      ∙ ap (λ (k : ℕ). fold step (fold step s (flat_map f (span 0 j))) (f k)) (sym (zero-add j))
-      ∙ sym (folds_add f s 0 j 1 ∙ folds_one f (fold step s (flat_map f (span 0 j))) (0 + j))
+      let k : j ≡ j - 0 = omega arith in
+      let l : j + 1 - 0 ≡ j + 1 = omega arith in
+      folds_next f s 0 j (omega arith) (e ∙ ap (λ (i : ℕ). fold step s (flat_map f (span 0 i))) k) next ∙ ap (λ (i : ℕ). fold step s (flat_map f (span 0 i))) l
 
   pub folds_ended : (f : ℕ → List A) (s : S) (j n : ℕ) {cur : S} → j ≤ n → n ≤ j → cur ≡ fold step s (flat_map f (span 0 j))
       → cur ≡ fold step s (flat_map f (span 0 n))

@@ -1,17 +1,24 @@
 -- What the turns of a loop bring, one list after the other.
-use Rattle.std.specs.Prelude.{ℕ, zero, suc, ◌+◌, ◌*◌, ◌<◌, ◌≡◌}
+use Rattle.std.specs.Prelude.{ℕ, zero, suc, ◌+◌, ◌-◌, ◌*◌, ◌≤◌, ◌<◌, ◌≡◌}
 use Rattle.std.proofs.Math.Path.{refl, sym, ap, ap₂}
 use Rattle.std.proofs.Common.{◌∙◌, add-zero, zero-add, zero-mul, arith}
 use mathlib.Core.List.{List, [], ◌∷◌, ◌++◌, flat_map, append_assoc, append-nil}
 use Rattle.lists.specs.Lists.{tabulate, span}
 use Rattle.lists.specs.Laws.Tables.{tabulate-add}
 
-module _ {B : Type 0} (f : ℕ → List B) where
-  flat_map-append : (xs ys : List ℕ) → flat_map f (xs ++ ys) ≡ flat_map f xs ++ flat_map f ys
+module _ {A B : Type 0} (f : A → List B) where
+  pub flat_map-append : (xs ys : List A) → flat_map f (xs ++ ys) ≡ flat_map f xs ++ flat_map f ys
   unfolding flat_map
   flat_map-append [] ys = refl
   flat_map-append (x ∷ xs) ys = ap (λ (t : List B). f x ++ t) (flat_map-append xs ys) ∙ sym (append_assoc (f x) (flat_map f xs) (flat_map f ys))
 
+  -- of what turns bring, what each of it brings
+  pub flat_map-flat : (g : ℕ → List A) (xs : List ℕ) → flat_map f (flat_map g xs) ≡ flat_map (λ i. flat_map f (g i)) xs
+  unfolding flat_map
+  flat_map-flat g [] = refl
+  flat_map-flat g (x ∷ xs) = flat_map-append (g x) (flat_map g xs) ∙ ap (λ (t : List B). flat_map f (g x) ++ t) (flat_map-flat g xs)
+
+module _ {B : Type 0} (f : ℕ → List B) where
   pub flat_map_none : (a : ℕ) → flat_map f (span a 0) ≡ []
   unfolding flat_map tabulate
   flat_map_none a = refl
@@ -22,7 +29,7 @@ module _ {B : Type 0} (f : ℕ → List B) where
 
   -- n turns from a on, and m more
   pub flat_map-add : (a n m : ℕ) → flat_map f (span a (n + m)) ≡ flat_map f (span a n) ++ flat_map f (span (a + n) m)
-  flat_map-add a n m = ap (flat_map f) (tabulate-add (λ i. i) a n m) ∙ flat_map-append (span a n) (span (a + n) m)
+  flat_map-add a n m = ap (flat_map f) (tabulate-add (λ i. i) a n m) ∙ flat_map-append f (span a n) (span (a + n) m)
 
 -- turns that bring the same, from a on and from b on
 pub turns_same : {B : Type 0} (f g : ℕ → List B) (a b n : ℕ) → ((i : ℕ) → i < n → f (a + i) ≡ g (b + i)) → flat_map f (span a n) ≡ flat_map g (span b n)
@@ -44,6 +51,18 @@ module _ {B : Type 0} (f : ℕ → List B) where
   turns_nothing a (suc n) e =
       ap₂ ◌++◌ (ap f (sym (add-zero a)) ∙ e 0 (omega arith))
       (turns_nothing (suc a) n (λ i h. let k : suc a + i ≡ a + suc i = omega arith in ap f k ∙ e (suc i) (omega arith)))
+
+  -- those from a up to, and without, b, of n, where the others bring nothing
+  pub turns_amid : (n a b : ℕ) → a ≤ b → b ≤ n → ((i : ℕ) → i < a → f i ≡ []) → ((i : ℕ) → i < n → b ≤ i → f i ≡ []) → flat_map f (span 0 n) ≡ flat_map f (span a (b - a))
+  turns_amid n a b h k early late =
+      let e : n ≡ a + ((b - a) + (n - b)) = omega arith in
+      let m : 0 + a + (b - a) ≡ b = omega arith in
+      ap (λ (i : ℕ). flat_map f (span 0 i)) e
+      ∙ flat_map-add f 0 a ((b - a) + (n - b))
+      ∙ ap₂ ◌++◌ (turns_nothing 0 a (λ i l. early (0 + i) (omega arith))) (flat_map-add f (0 + a) (b - a) (n - b))
+      ∙ ap (λ (t : List B). flat_map f (span (0 + a) (b - a)) ++ t) (turns_nothing (0 + a + (b - a)) (n - b) (λ i l. late (0 + a + (b - a) + i) (omega arith) (omega arith)))
+      ∙ append-nil (flat_map f (span (0 + a) (b - a)))
+      ∙ ap (λ (i : ℕ). flat_map f (span i (b - a))) (zero-add a)
 
   -- row by row of n, where row y brings what g says of it
   pub turns_by_rows : (g : ℕ → List B) (n m : ℕ) → ((y : ℕ) → flat_map f (span (y * n) n) ≡ g y) → flat_map f (span 0 (m * n)) ≡ flat_map g (span 0 m)
