@@ -40,7 +40,7 @@ module _ (s : Triangle (Vec3 Float)) (w h : ℕ) {b : Box} (k : Scanned s w h b)
 
       go : (t : Bool) → flat_map (λ iy. cond (t && in_range b.rows.start b.rows.end iy) (number iy ∷ []) []) (span 0 h) ≡ cond t (box_column ix) []
       go true = flat_map_range (λ iy. number iy ∷ []) b.rows.start b.rows.end h k.rows.order k.rows.most ∙ flat_map_single number b.rows.start (b.rows.end - b.rows.start)
-      go false = turns_nothing (λ iy. []) 0 h (λ i l. refl)
+      go false = turns_nothing (λ iy. []) 0 h (λ i l j. [])
 
   pub box-visits : visits w h s ≡ box_visits w b
   unfolding visits columnwise box_visits in_range
