@@ -1,5 +1,5 @@
--- At f32 the formulas of this crate are those of the product's definitions: what `interpolate` writes, what `interpolate_bwd` and `bwd` add, and the weights
--- of drawing.
+-- At f32 the formulas of this crate are those of the product's definitions: what `interpolate` writes, what `interpolate_bwd`, `bwd` and
+-- `bwd_antialias` add, and the weights of drawing.
 use Rattle.std.specs.Prelude.{ℕ, ◌≡◌, Bool, true, false, not, ◌&&◌, cond, Float}
 use Rattle.std.proofs.Math.Path.{refl, ap₂}
 use Rattle.std.proofs.Common.{sym, ◌∙◌, ap}
@@ -14,7 +14,7 @@ use Rattle.geometry.specs.Leaf.{entries, weighed, weighed_all, with_sum, weighed
 use Rattle.rays.specs.Space.{Ray, scaled3}
 use Rattle.rays_bwd.specs.Backward.{shares}
 use Rattle.meshes.specs.Mesh as Mesh
-use Rattle.meshes.specs.Mesh.{Face}
+use Rattle.meshes.specs.Mesh.{Face, vertex_at}
 use Rattle.meshes.specs.View.{View}
 use Rattle.meshes.specs.Sums as Sums
 use Rattle.lists.specs.Lists.{span}
@@ -28,6 +28,11 @@ use Rattle.image_bwd.specs.Summed as Summed
 use Rattle.image_bwd.specs.Summed.{summed_over}
 use Rattle.tris.specs.Tri.{point_on}
 use Rattle.scattering.specs.Scattering.{to_vertex, to_face, to_point, spread}
+use Rattle.jacobians.specs.Formula.{Mat3, jacobian}
+use Rattle.outlines.specs.Formula.{Ends, crossing_backward}
+use Rattle.outline_views.specs.Outline.{OutlineEdge, Met}
+use Rattle.antialias_bwd.specs.Formula.{pulled_back}
+use Rattle.antialias_bwd.specs.Additions.{crossing_dldr, at_vertex, to_ends, met_additions, crossing_additions}
 use Rattle.truth.specs.Pixel.{value_at, incoming, backward, gradients_at, to_value}
 use Rattle.truth.specs.Projection.{pulled}
 use Rattle.truth.specs.Weights.{area_sum, weights_in}
@@ -91,6 +96,16 @@ pub edge_at_floats : (m : List Float) (x : Triangle (Vec3 Float)) (f : Face) (g 
     spread m x f g (some b) ≡ to_place f.v0 to.p0 ++ (to_place f.v1 to.p1 ++ to_place f.v2 to.p2))
 unfolding spread to_face to_vertex to_point point_on pulled shares scaled3
 edge_at_floats m x f g b = refl
+
+-- ---- `bwd_antialias`
+
+-- what it adds for a crossing: to both vertices of its edge, what the crossing gives the ends in the picture, taken back
+pub outline_at_floats : (m xyz val dldw : List Float) (v : OutlineEdge) (e : Ends Float) (k : Met)
+    → (let g = crossing_backward floats e k.crossing (crossing_dldr val dldw k) in
+    let j : ℕ → Mat3 Float = λ i. jacobian floats (entries m) (vertex_at xyz i) in
+    crossing_additions m xyz val dldw v e k ≡ to_place v.v0 (pulled_back floats (j v.v0) g.q0) ++ to_place v.v1 (pulled_back floats (j v.v1) g.q1))
+unfolding crossing_additions met_additions to_ends at_vertex
+outline_at_floats m xyz val dldw v e k = refl
 
 -- ---- drawing
 
