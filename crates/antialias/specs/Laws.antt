@@ -1,15 +1,15 @@
 -- Proved of the definitions.
-use Rattle.std.specs.Prelude.{ℕ, ◌*◌, ◌≡◌, refl, List, [], ◌∷◌, length, Float}
+use Rattle.std.specs.Prelude.{ℕ, ◌*◌, ◌≡◌, List, length, Float}
 use Rattle.std.proofs.Common.{◌∙◌, length-set}
+use Rattle.lists.specs.Laws.Folds.{fold-long}
 use Rattle.outline_views.specs.Outline.{OutlineView}
 use Rattle.outline_views.specs.Laws.{lengths_passed, images_passed}
 use Rattle.antialias.specs.Smoothing.{Write, wrote, written}
 use Rattle.antialias.specs.Calls.{antialias_code}
 
-pub length-written : (out : List Float) (ws : List Write) → length (written out ws) ≡ length out
+length-written : (out : List Float) (ws : List Write) → length (written out ws) ≡ length out
 unfolding written wrote
-length-written out [] = refl
-length-written out (w ∷ ws) = length-written (wrote out w) ws ∙ length-set out w.place w.value
+length-written out ws = fold-long wrote (λ s w. length-set s w.place w.value) out ws
 
 pub as_long : (out : List Float) {new : List Float} {n : ℕ} (ws : List Write) → length out ≡ n → new ≡ written out ws → length new ≡ n
 as_long out ws e made = rw made (length-written out ws ∙ e)

@@ -23,12 +23,12 @@ wrote out w = set out w.place w.value
 unfoldable pub written : List Float → List Write → List Float
 written out ws = fold wrote out ws
 
-abbrev pub value_at : List Float → ℕ → Float
-value_at vals p = get_or vals p nan
+abbrev pub pixel_value : List Float → ℕ → Float
+pixel_value vals p = get_or vals p nan
 
 -- r0 of the value of the pixel that shows a face, and the rest of the empty one's
 abbrev pub mixed_at : List Float → Met → Float → Float
-mixed_at vin k r0 = mixed floats r0 (value_at vin k.first) (value_at vin k.second)
+mixed_at vin k r0 = mixed floats r0 (pixel_value vin k.first) (pixel_value vin k.second)
 
 -- Where rc is below 0.5 the edge lies in the pixel that shows a face, which keeps 0.5 + rc of its value; else in the empty one, which gets rc − 0.5 of it.
 unfoldable pub smoothed : List Float → Met → Write

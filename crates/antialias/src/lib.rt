@@ -5,8 +5,6 @@ ghost use Rattle.std.specs.Prelude.{◌≡◌, ◌+◌, ◌*◌, ◌/◌, ◌<�
 ghost use mathlib.Core.List.{flat_map};
 ghost use Rattle.questions.specs.Answer.{code_of};
 ghost use Rattle.questions.specs.Questions.{outcome};
-ghost use Rattle.pixels.specs.Answer.{axis_of};
-ghost use Rattle.outlines.specs.Neighbours.{pair_axis};
 ghost use Rattle.outlines.specs.Answer.{ends_of, pixel_of};
 ghost use Rattle.outline_views.specs.Outline.{outline_view, shown_in, covered_met, edge_met, edge_items, project_edge};
 ghost use Rattle.outline_views.specs.Laws.{row_items};
@@ -17,7 +15,7 @@ ghost use Rattle.antialias.specs.Calls.{antialias_code, antialias_writes, antial
 
 use outline_views::{Lengths, Met, Outline, OutlineEdge, Traced};
 use outlines::Ends;
-use pixels::{Axis, Pixel};
+use pixels::Pixel;
 use questions::Refusal;
 
 // The pixel in which the edge lies takes of both values, each by its part of the pixel.
@@ -46,10 +44,10 @@ fn smooth_pair(vout: &mut [f32], o: &Outline, vin: &[f32], e: Ends, p: Pixel, q:
     requires lent { length vout.old ≡ length vin.now }
     ensures { vout.new ≡ written vout.old (flat_map (writes vin.now) (both_met (seen_of o.now) (ends_of e) (pixel_of p) (pixel_of q))) }
 {
-    match o.met_between(e, p, q) {
-        Some(k) => smooth_met(vout, vin, k),
-        None => {}
-    }
+    let Some(k) = o.met_between(e, p, q) else {
+        return;
+    };
+    smooth_met(vout, vin, k);
 }
 
 // A pixel with its neighbour before and with the one after, where the edge covers the pixel and a crossing may be there.
@@ -103,10 +101,10 @@ fn smooth_ends(vout: &mut [f32], o: &Outline, vin: &[f32], f: OutlineEdge)
     requires lent { length vout.old ≡ length vin.now }
     ensures { vout.new ≡ written vout.old (edge_items (λ v e. writes vin.now) (seen_of o.now) (outline_edge_of f) (project_edge o.now.m.now o.now.vtx2xyz.now (outline_edge_of f))) }
 {
-    match o.project(f) {
-        Some(e) => smooth_edge(vout, o, vin, &o.trace(e)),
-        None => {}
-    }
+    let Some(e) = o.project(f) else {
+        return;
+    };
+    smooth_edge(vout, o, vin, &o.trace(e));
 }
 
 // The edges, in order.

@@ -1,26 +1,21 @@
 -- What a crossing adds to `dldw_vtx2xyz`, in order.
-use Rattle.std.specs.Prelude.{ℕ, ◌+◌, ◌*◌, cond, List, [], ◌∷◌, ◌++◌, Float}
+use Rattle.std.specs.Prelude.{cond, List, ◌++◌, Float}
 use Rattle.std.specs.Float.Ieee.{lt}
 use Rattle.geometry.specs.Arith.{floats}
-use Rattle.geometry.specs.Vector.{Vec3}
 use Rattle.geometry.specs.Leaf.{entries}
 use Rattle.jacobians.specs.Formula.{Mat3, jacobian}
 use Rattle.meshes.specs.Mesh.{vertex_at}
-use Rattle.meshes.specs.Sums.{Addition, addition}
+use Rattle.meshes.specs.Sums.{Addition, at_vertex}
 use Rattle.pixels.specs.Pixel.{half}
 use Rattle.outlines.specs.Formula.{Ends, crossing_backward}
 use Rattle.outline_views.specs.Outline.{OutlineEdge, Met}
-use Rattle.antialias.specs.Smoothing.{value_at}
+use Rattle.antialias.specs.Smoothing.{pixel_value}
 use Rattle.antialias_bwd.specs.Formula.{pulled_back}
 
 -- the incoming gradient of rc: that of the pixel in which the edge lies, times the difference of both values
 unfoldable pub crossing_dldr : List Float → List Float → Met → Float
 crossing_dldr val dldw k =
-    floats.mul (cond (lt k.crossing.rc half) (value_at dldw k.first) (value_at dldw k.second)) (floats.sub (value_at val k.first) (value_at val k.second))
-
--- x to the three coordinates of vertex v
-unfoldable pub at_vertex : ℕ → Vec3 Float → List Addition
-at_vertex v x = addition (3 * v) x.x ∷ addition (3 * v + 1) x.y ∷ addition (3 * v + 2) x.z ∷ []
+    floats.mul (cond (lt k.crossing.rc half) (pixel_value dldw k.first) (pixel_value dldw k.second)) (floats.sub (pixel_value val k.first) (pixel_value val k.second))
 
 -- the shares of both ends, each taken back to its vertex, vertex 0's before vertex 1's
 unfoldable pub to_ends : OutlineEdge → Mat3 Float → Mat3 Float → Ends Float → List Addition

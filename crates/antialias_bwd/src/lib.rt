@@ -1,6 +1,8 @@
 // 02, Point 1: outline smoothing backward, the public call `bwd_antialias`, with C's parameters in C's order.
 #![tactic(auto)]
 
+mod incoming;
+
 ghost use Rattle.std.specs.Prelude.{◌≡◌, ◌+◌, ◌*◌, ◌/◌, ◌<◌, ◌≤◌, length, IfOk};
 ghost use mathlib.Core.List.{flat_map};
 ghost use Rattle.questions.specs.Answer.{code_of};
@@ -15,23 +17,17 @@ ghost use Rattle.outline_views.specs.Laws.{row_items};
 ghost use Rattle.outline_views.specs.Steps.{OffBorder, both_met};
 ghost use Rattle.outline_views.specs.Answer.{seen_of, met_of, outline_edge_of, Lent};
 ghost use Rattle.antialias_bwd.specs.Formula as formula;
-ghost use Rattle.antialias_bwd.specs.Additions.{crossing_dldr, at_vertex, to_ends, met_additions, crossing_additions};
+ghost use Rattle.antialias_bwd.specs.Additions.{to_ends, met_additions, crossing_additions};
 ghost use Rattle.antialias_bwd.specs.Calls.{bwd_antialias_code, outline_additions, antialiasing_bwd};
 ghost use Rattle.antialias_bwd.specs.Answer.{brought, Ready};
 
 use geometry::{Vec2, Vec3};
+use incoming::Incoming;
 use jacobians::Mat3;
 use outline_views::{Lengths, Met, Outline, OutlineEdge, Traced};
 use outlines::Ends;
 use pixels::Pixel;
 use questions::Refusal;
-
-// The values that an image's pixels show, and their incoming gradients: one number a pixel of each.
-#[derive(Clone, Copy)]
-struct PixelValues<'a> {
-    pix2val: &'a [f32],
-    dldw_pix2val: &'a [f32],
-}
 
 // An edge by its vertices, traced in the picture, and how each end moves with its vertex.
 #[derive(Clone, Copy)]
@@ -54,18 +50,6 @@ fn pulled_back(j: Mat3, g: Vec2) -> Vec3
     }
 }
 
-// x to the coordinates of vertex v.
-#[tactic(auto, unfolding(crate::specs::Additions::at_vertex, meshes::specs::Sums::summed))]
-fn add_vertex(sums: &mut [f32], v: usize, x: Vec3)
-    requires { v < length sums.old / 3 }
-    ensures { sums.new ≡ summed sums.old (at_vertex v (point3 x)) }
-{
-    let i = 3 * v;
-    meshes::add_at(sums, i, x.x);
-    meshes::add_at(sums, i + 1, x.y);
-    meshes::add_at(sums, i + 2, x.z);
-}
-
 // The shares of both ends, each taken back to its vertex.
 #[tactic(auto, using(meshes::specs::Laws::summed_then), unfolding(crate::specs::Additions::to_ends))]
 fn add_ends(sums: &mut [f32], a: &MovedEdge, g: Ends)
@@ -73,34 +57,15 @@ fn add_ends(sums: &mut [f32], a: &MovedEdge, g: Ends)
     requires second { a.now.f.v1 < length sums.old / 3 }
     ensures { sums.new ≡ summed sums.old (to_ends (outline_edge_of a.now.f) (matrix_of a.now.j0) (matrix_of a.now.j1) (ends_of g)) }
 {
-    add_vertex(sums, a.f.v0, pulled_back(a.j0, g.q0));
-    add_vertex(sums, a.f.v1, pulled_back(a.j1, g.q1));
-}
-
-impl PixelValues<'_> {
-    // The incoming gradient of a crossing's rc.
-    #[tactic(auto, unfolding(crate::specs::Additions::crossing_dldr))]
-    fn dldr(&self, k: Met) -> f32
-        requires first { k.first < length self.now.pix2val.now }
-        requires second { k.second < length self.now.pix2val.now }
-        requires gradients { length self.now.dldw_pix2val.now ≡ length self.now.pix2val.now }
-        ensures { result ≡ crossing_dldr self.now.pix2val.now self.now.dldw_pix2val.now (met_of k) }
-    {
-        let dv = self.pix2val[k.first] - self.pix2val[k.second];
-        if k.crossing.rc < 0.5 {
-            self.dldw_pix2val[k.first] * dv
-        } else {
-            self.dldw_pix2val[k.second] * dv
-        }
-    }
+    meshes::add_vertex(sums, a.f.v0, pulled_back(a.j0, g.q0));
+    meshes::add_vertex(sums, a.f.v1, pulled_back(a.j1, g.q1));
 }
 
 // A crossing.
 #[tactic(auto, unfolding(crate::specs::Additions::met_additions))]
-fn scatter_met(sums: &mut [f32], values: &PixelValues, a: &MovedEdge, k: Met)
+fn scatter_met(sums: &mut [f32], values: &Incoming, a: &MovedEdge, k: Met)
     requires first_pixel { k.first < length values.now.pix2val.now }
     requires second_pixel { k.second < length values.now.pix2val.now }
-    requires gradients { length values.now.dldw_pix2val.now ≡ length values.now.pix2val.now }
     requires first { a.now.f.v0 < length sums.old / 3 }
     requires second { a.now.f.v1 < length sums.old / 3 }
     ensures { sums.new ≡ summed sums.old (brought values.now a.now (met_of k)) }
@@ -110,14 +75,7 @@ fn scatter_met(sums: &mut [f32], values: &PixelValues, a: &MovedEdge, k: Met)
 }
 
 // A pixel and a neighbour of it.
-fn scatter_pair(
-    sums: &mut [f32],
-    o: &Outline,
-    values: &PixelValues,
-    a: &MovedEdge,
-    p: Pixel,
-    q: Pixel,
-)
+fn scatter_pair(sums: &mut [f32], o: &Outline, values: &Incoming, a: &MovedEdge, p: Pixel, q: Pixel)
     requires first_column { p.x < o.now.size.w }
     requires first_row { p.y < o.now.size.h }
     requires second_column { q.x < o.now.size.w }
@@ -125,14 +83,14 @@ fn scatter_pair(
     requires ready { Ready o.now values.now a.now sums.old }
     ensures { sums.new ≡ summed sums.old (flat_map (brought values.now a.now) (both_met (seen_of o.now) (ends_of a.now.t.reach.e) (pixel_of p) (pixel_of q))) }
 {
-    match o.met_between(a.t.reach.e, p, q) {
-        Some(k) => scatter_met(sums, values, a, k),
-        None => {}
-    }
+    let Some(k) = o.met_between(a.t.reach.e, p, q) else {
+        return;
+    };
+    scatter_met(sums, values, a, k);
 }
 
 // A pixel with its neighbour before and with the one after, where the edge covers the pixel and a crossing may be there.
-fn scatter_pixel(sums: &mut [f32], o: &Outline, values: &PixelValues, a: &MovedEdge, p: Pixel)
+fn scatter_pixel(sums: &mut [f32], o: &Outline, values: &Incoming, a: &MovedEdge, p: Pixel)
     requires inside { OffBorder o.now.size.w o.now.size.h (pixel_of p) }
     requires ready { Ready o.now values.now a.now sums.old }
     ensures { sums.new ≡ summed sums.old (flat_map (brought values.now a.now) (covered_met (seen_of o.now) (ends_of a.now.t.reach.e) (pixel_of p))) }
@@ -145,7 +103,7 @@ fn scatter_pixel(sums: &mut [f32], o: &Outline, values: &PixelValues, a: &MovedE
 }
 
 // The pixels of a row that an edge may cover.
-fn scatter_row(sums: &mut [f32], o: &Outline, values: &PixelValues, a: &MovedEdge, y: usize)
+fn scatter_row(sums: &mut [f32], o: &Outline, values: &Incoming, a: &MovedEdge, y: usize)
     requires upper { 1 ≤ y }
     requires lower { y + 1 < o.now.size.h }
     requires ready { Ready o.now values.now a.now sums.old }
@@ -158,7 +116,7 @@ fn scatter_row(sums: &mut [f32], o: &Outline, values: &PixelValues, a: &MovedEdg
 }
 
 // The rows of an edge.
-fn scatter_edge(sums: &mut [f32], o: &Outline, values: &PixelValues, a: &MovedEdge)
+fn scatter_edge(sums: &mut [f32], o: &Outline, values: &Incoming, a: &MovedEdge)
     requires ready { Ready o.now values.now a.now sums.old }
     ensures { sums.new ≡ summed sums.old (flat_map (brought values.now a.now) (edge_met (seen_of o.now) (ends_of a.now.t.reach.e))) }
 {
@@ -168,33 +126,29 @@ fn scatter_edge(sums: &mut [f32], o: &Outline, values: &PixelValues, a: &MovedEd
 }
 
 // An edge by its vertices.
-fn scatter_ends(sums: &mut [f32], o: &Outline, values: &PixelValues, f: OutlineEdge)
+fn scatter_ends(sums: &mut [f32], o: &Outline, values: &Incoming, f: OutlineEdge)
     requires first { f.v0 < length o.now.vtx2xyz.now / 3 }
     requires second { f.v1 < length o.now.vtx2xyz.now / 3 }
     requires pixels { length values.now.pix2val.now ≡ o.now.size.w * o.now.size.h }
-    requires gradients { length values.now.dldw_pix2val.now ≡ o.now.size.w * o.now.size.h }
     requires lent { length sums.old ≡ length o.now.vtx2xyz.now }
     ensures { sums.new ≡ summed sums.old (edge_items (crossing_additions o.now.m.now o.now.vtx2xyz.now values.now.pix2val.now values.now.dldw_pix2val.now)
         (seen_of o.now) (outline_edge_of f) (project_edge o.now.m.now o.now.vtx2xyz.now (outline_edge_of f))) }
 {
-    match o.project(f) {
-        Some(e) => {
-            let a = MovedEdge {
-                f,
-                t: o.trace(e),
-                j0: jacobians::jacobian_transform(o.m, meshes::vertex(o.vtx2xyz, f.v0)),
-                j1: jacobians::jacobian_transform(o.m, meshes::vertex(o.vtx2xyz, f.v1)),
-            };
-            scatter_edge(sums, o, values, &a);
-        }
-        None => {}
-    }
+    let Some(e) = o.project(f) else {
+        return;
+    };
+    let a = MovedEdge {
+        f,
+        t: o.trace(e),
+        j0: jacobians::jacobian_transform(o.m, meshes::vertex(o.vtx2xyz, f.v0)),
+        j1: jacobians::jacobian_transform(o.m, meshes::vertex(o.vtx2xyz, f.v1)),
+    };
+    scatter_edge(sums, o, values, &a);
 }
 
 // The edges, in order.
-fn scatter_outline(sums: &mut [f32], o: &Outline, values: &PixelValues)
+fn scatter_outline(sums: &mut [f32], o: &Outline, values: &Incoming)
     requires pixels { length values.now.pix2val.now ≡ o.now.size.w * o.now.size.h }
-    requires gradients { length values.now.dldw_pix2val.now ≡ o.now.size.w * o.now.size.h }
     requires lent { length sums.old ≡ length o.now.vtx2xyz.now }
     ensures { sums.new ≡ summed sums.old (outline_additions (seen_of o.now) values.now.pix2val.now values.now.dldw_pix2val.now) }
 {
@@ -265,7 +219,7 @@ pub fn bwd_antialias(
         dldw_pix2val,
         pix2tri,
     )?;
-    let values = PixelValues {
+    let values = Incoming {
         pix2val,
         dldw_pix2val,
     };

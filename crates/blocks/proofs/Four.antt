@@ -17,7 +17,7 @@ use Rattle.pixels.specs.Pixel.{centre}
 use Rattle.rules.specs.Scan.{depth_at}
 use Rattle.rules.specs.Visits.{visited}
 use Rattle.lanes.specs.Answer.{or_lowest}
-use Rattle.boxes.proofs.Reaching.{below_or}
+use Rattle.lists.specs.Laws.Tests.{below_or}
 use Rattle.blocks.specs.Rows.{depth_cells, rows_down, up_to}
 use Rattle.blocks.specs.Greater.{if_greater, two_if_greater, four_if_greater}
 use Rattle.blocks.proofs.Centres.{centre-before, centre-after}

@@ -12,7 +12,7 @@ use Rattle.cells.specs.Layer.{Layer}
 use Rattle.cells.specs.Steps.{Spans}
 use Rattle.rules.specs.Visits.{visited}
 use Rattle.rules.proofs.Laws.Visited.{visited-append, spans-visited}
-use Rattle.boxes.proofs.Reaching.{below_or}
+use Rattle.lists.specs.Laws.Tests.{below_or}
 use Rattle.blocks.specs.Rows.{rows_down, up_to}
 use Rattle.blocks.proofs.Down.{rows_none, rows-one, rows_append}
 

@@ -4,9 +4,10 @@ use mathlib.Core.Path.{◌≡◌, refl, sym, ap, ◌∙◌}
 use mathlib.Core.Bool.{Bool, true, false, not, ◌&&◌, false≢true}
 use mathlib.Core.Logic.{◌⊎◌, inl, inr}
 use native.Mathlib.Omega.{arith}
-use borrow.Author.Tests.{ltb-true, ltb-false, lt-ltb, le-ltb, le-leb, lt-leb, not-true, not-false}
+use borrow.Author.Tests.{lt-ltb, le-ltb, le-leb, lt-leb, not-true, not-false}
 use lib.Dec.{leb, ltb}
 use lib.Ieee.{Float, le}
+use Rattle.lists.specs.Laws.Tests.{below_or}
 use Rattle.pixels.specs.Pixel.{centre}
 use Rattle.rules.specs.Scan.{between}
 use Rattle.rules.proofs.Laws.Centre.{low_centre, high_centre}
@@ -14,14 +15,6 @@ use Rattle.boxes.specs.declared.reach.End.{End}
 use Rattle.boxes.specs.declared.reach.End.TheVariants.{Lower, Upper}
 use Rattle.boxes.specs.Reach.{reached, Settled, FirstReached}
 use Rattle.boxes.specs.Box.{in_range}
-
--- i is below j or not
-pub below_or : (i j : ℕ) → (i < j) ⊎ (j ≤ i)
-below_or i j = go (ltb i j) refl
-  where
-    go : (b : Bool) → ltb i j ≡ b → (i < j) ⊎ (j ≤ i)
-    go true e = inl (ltb-true i j e)
-    go false e = inr (ltb-false i j e)
 
 -- ---- what has been reached stays so
 

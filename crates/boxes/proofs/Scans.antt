@@ -9,7 +9,7 @@ use lib.Ieee.{Float}
 use lib.Ieee.Scale.{finite}
 use Rattle.lists.specs.Lists.{span, count}
 use Rattle.lists.specs.Laws.Sums.{count_same, count_alike, count-from}
-use Rattle.lists.specs.Laws.Tests.{after_yes, after_no}
+use Rattle.lists.specs.Laws.Tests.{after_yes, after_no, below_or}
 use Rattle.geometry.specs.Vector.{Vec3, Triangle}
 use Rattle.pixels.specs.Pixel.{centre}
 use Rattle.rules.specs.Scan.{all_finite, finite_in_pixels, in_closed_box, scans, spans, between, least, greatest}
@@ -18,7 +18,7 @@ use Rattle.boxes.specs.declared.reach.End.TheVariants.{Lower, Upper}
 use Rattle.boxes.specs.declared.Box.{Box}
 use Rattle.boxes.specs.Reach.{FirstReached, holds_centre, Misses, Tells}
 use Rattle.boxes.specs.Box.{in_range, in_box, Unspanned, Spanned, Unscanned, Meets, Scanned}
-use Rattle.boxes.proofs.Reaching.{below_or, range_is, range_none}
+use Rattle.boxes.proofs.Reaching.{range_is, range_none}
 
 -- ---- three coordinates along an axis
 

@@ -8,7 +8,7 @@ ghost use Rattle.meshes.specs.Mesh.{face_at, vertex_at, corners_at, project_face
 ghost use Rattle.meshes.specs.Answer.{face_of};
 ghost use Rattle.meshes.specs.Sound.{SoundMesh, SoundMap};
 ghost use Rattle.meshes.specs.View.{named};
-ghost use Rattle.meshes.specs.Sums.{added, addition};
+ghost use Rattle.meshes.specs.Sums.{added, addition, at_vertex, summed};
 
 use geometry::{Projected, Triangle, Vec3};
 use pixels::{ImageSize, Pixel};
@@ -157,4 +157,16 @@ pub fn add_at(sums: &mut [f32], place: usize, amount: f32)
     ensures { sums.new ≡ added sums.old (addition place amount) }
 {
     sums[place] += amount;
+}
+
+// x to the coordinates of vertex v.
+#[tactic(auto, unfolding(crate::specs::Sums::at_vertex, crate::specs::Sums::summed))]
+pub fn add_vertex(sums: &mut [f32], v: usize, x: Vec3)
+    requires { v < length sums.old / 3 }
+    ensures { sums.new ≡ summed sums.old (at_vertex v (point3 x)) }
+{
+    let i = 3 * v;
+    add_at(sums, i, x.x);
+    add_at(sums, i + 1, x.y);
+    add_at(sums, i + 2, x.z);
 }

@@ -10,7 +10,7 @@ use Rattle.pixels.specs.Pixel.{pixel}
 use Rattle.outlines.specs.Formula.{Ends}
 use Rattle.outlines.specs.Covered.{side_of, above_at, below_at, parts_corners, covers}
 use Rattle.outline_spans.specs.Course.{Falls, Rises}
-use Rattle.outline_spans.specs.Missed.{NoneBefore, NoneFrom}
+use Rattle.outline_spans.specs.Narrowed.{NoneBefore, NoneFrom}
 
 module _ (e : Ends Float) where
   -- a pixel with all its corners on one side

@@ -10,12 +10,12 @@ use Rattle.outline_spans.specs.declared.course.Course.{Course}
 use Rattle.outline_spans.specs.declared.course.Course.TheVariants.{Falling, Rising}
 
 -- k times the way from c to line i. A side is the difference of two such: that of its row and that of its column
-unfoldable pub along : Float → Float → ℕ → Float
-along k c i = floats.mul k (floats.sub (as_float i) c)
+unfoldable pub stretched : Float → Float → ℕ → Float
+stretched k c i = floats.mul k (floats.sub (as_float i) c)
 
 -- at the first line and at line n
 unfoldable pub ends_finite : Float → Float → ℕ → Bool
-ends_finite k c n = finite (along k c 0) && finite (along k c n)
+ends_finite k c n = finite (stretched k c 0) && finite (stretched k c n)
 
 -- in an image w wide and h high, the sides along a row of corners never rise on the way right
 abbrev pub Falls : Ends Float → ℕ → ℕ → Type 0

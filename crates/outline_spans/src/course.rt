@@ -9,7 +9,7 @@ ghost use Rattle.outlines.specs.Covered.{covers};
 ghost use Rattle.outlines.specs.Answer.{ends_of};
 ghost use Rattle.outline_spans.specs.Course as spec;
 ghost use Rattle.outline_spans.specs.Course.{Runs};
-ghost use Rattle.outline_spans.specs.Missed.{NoneBefore, NoneFrom};
+ghost use Rattle.outline_spans.specs.Narrowed.{NoneBefore, NoneFrom};
 
 use outlines::Ends;
 use pixels::ImageSize;
@@ -22,10 +22,10 @@ pub enum Course {
 }
 
 // k times the way from c to line i.
-#[tactic(auto, unfolding(crate::specs::Course::along))]
-fn along(k: f32, c: f32, i: usize) -> f32
+#[tactic(auto, unfolding(crate::specs::Course::stretched))]
+fn stretched(k: f32, c: f32, i: usize) -> f32
     requires { i ≤ 4096 }
-    ensures { result ≡ spec.along k c i }
+    ensures { result ≡ spec.stretched k c i }
 {
     k * (pixels::as_float(i) - c)
 }
@@ -36,7 +36,7 @@ fn ends_finite(k: f32, c: f32, n: usize) -> bool
     requires { n ≤ 4096 }
     ensures { result ≡ spec.ends_finite k c n }
 {
-    geometry::finite(along(k, c, 0)) && geometry::finite(along(k, c, n))
+    geometry::finite(stretched(k, c, 0)) && geometry::finite(stretched(k, c, n))
 }
 
 // The course of an edge in an image: none where a product is not finite, and none where the edge is level, since its box is then all that it covers.

@@ -10,19 +10,12 @@ use Rattle.outline_views.specs.Steps.{SoundOutline}
 pub size_passed : (w h : ℕ) → sizes 1 w h ≡ true → Sized 1 w h
 size_passed w h e = sized 1 w h e
 
-pub outline_passed : (cedge map : List ℕ) (xyz : List Float) (w h first second : ℕ) (others : Bool) → Sized 1 w h → edge_slices (length cedge) (length xyz) ≡ true
-    → exact_images w h (length map) first second && others ≡ true → all_below (length xyz / 3) cedge ≡ true → SoundOutline cedge xyz map w h
+pub outline_passed : (cedge map : List ℕ) (xyz : List Float) (w h first second : ℕ) (others : Bool) → exact_images w h (length map) first second && others ≡ true
+    → all_below (length xyz / 3) cedge ≡ true → SoundOutline cedge xyz map w h
 unfolding exact_images
-outline_passed cedge map xyz w h first second others q1 q3 q4 q10 =
-    let threes = both (groups 2 most_edges (length cedge)) _ q3 in
+outline_passed cedge map xyz w h first second others q4 q10 =
     let lengths = both (exact_images w h (length map) first second) others q4 in
     let images = both (exact (w * h) (length map)) _ lengths.0 in
-    record {
-      size = q1;
-      edges = whole 2 most_edges (length cedge) (grouped 2 most_edges (length cedge) threes.0);
-      vertices = whole 3 most_count (length xyz) (grouped 3 most_count (length xyz) threes.1);
-      named = q10;
-      whole = exactly (w * h) (length map) images.0;
-    }
+    record { named = q10; whole = exactly (w * h) (length map) images.0 }
 
 pub ruleset asked = (yes, size_passed, outline_passed)

@@ -30,6 +30,6 @@ abbrev pub mets_of : std.Option codeM.Met → List Outline.Met
 mets_of None = []
 mets_of (Some k) = met_of k ∷ []
 
--- what an accepted call's outline is of
+-- the outline of an accepted call shows what the call was lent
 pub record Lent (o : codeO.Outline) (s : OutlineView) : Type 0 where
   pub seen : seen_of o ≡ s

@@ -7,7 +7,7 @@ use Rattle.std.proofs.Math.Bool.{and-false}
 use mathlib.Core.List.{◌++◌, flat_map, append_assoc, append-nil}
 use Rattle.lists.specs.Lists.{tabulate, span}
 use Rattle.lists.specs.Laws.Turns.{flat_map-append, flat_map-flat, turns_same, turns_nothing, turns_amid, turns_by_rows}
-use Rattle.lists.specs.Laws.Folds.{folded_then}
+use Rattle.lists.specs.Laws.Folds.{folded_then, folds_narrowed}
 use Rattle.lists.specs.Laws.Tests.{both}
 use Rattle.questions.specs.Questions.{sizes, edge_slices, exact}
 use Rattle.questions.specs.Laws.{accepted, exactly}
@@ -16,11 +16,10 @@ use Rattle.pixels.specs.Edge.{Axis}
 use Rattle.pixels.specs.Laws.{row-at, column-at}
 use Rattle.boxes.specs.declared.lines.Span.{Span}
 use Rattle.boxes.specs.Box.{in_range}
-use Rattle.boxes.proofs.Reaching.{below_or}
 use Rattle.outlines.specs.Formula.{Ends}
 use Rattle.outlines.specs.Leaf.{crossing_between}
 use Rattle.outlines.specs.Covered.{has_nan, covers, meets_side, meets_square}
-use Rattle.outlines.specs.Neighbours.{pair_axis, neighbour_pair, pair, before, after, within_border}
+use Rattle.outlines.specs.Neighbours.{pair_axis, neighbour_pair, pair, before, after, off_border}
 use Rattle.outline_spans.specs.Narrowed.{Narrowed}
 use Rattle.outline_views.specs.Outline.{OutlineView, Met, met_at, pair_met, pixel_met, covered_met, edge_met, exact_images, outline_code}
 use Rattle.outline_views.specs.Steps.{OffBorder, both_met}
@@ -49,19 +48,19 @@ module _ (s : OutlineView) (e : Ends Float) (p q : Pixel) where
   met_nowhere true a b = rw (a, b) refl
   met_nowhere false a b = rw (a, b) refl
 
-off-border : (w h : ℕ) (p : Pixel) → OffBorder w h p → within_border w h p ≡ true
-unfolding within_border
-off-border w h p k = rw (lt-ltb 0 p.column k.left, lt-ltb (p.column + 1) w k.right, lt-ltb 0 p.row k.upper, lt-ltb (p.row + 1) h k.lower) refl
+off_border_yes : (w h : ℕ) (p : Pixel) → OffBorder w h p → off_border w h p ≡ true
+unfolding off_border
+off_border_yes w h p k = rw (lt-ltb 0 p.column k.left, lt-ltb (p.column + 1) w k.right, lt-ltb 0 p.row k.upper, lt-ltb (p.row + 1) h k.lower) refl
 
 -- off the border, an edge's crossings at a pixel are the pixel's where it covers it
 pub covered_off_border : (s : OutlineView) (e : Ends Float) (p : Pixel) → OffBorder s.width s.height p → covered_met s e p ≡ cond (covers e p) (pixel_met s e p) []
 unfolding covered_met
-covered_off_border s e p k = rw (off-border s.width s.height p k) refl
+covered_off_border s e p k = rw (off_border_yes s.width s.height p k) refl
 
 -- and none where the pixel has none
 pub covered_nothing : (s : OutlineView) (e : Ends Float) (p : Pixel) → pixel_met s e p ≡ [] → covered_met s e p ≡ []
 unfolding covered_met
-covered_nothing s e p h = rw h (go (within_border s.width s.height p && covers e p))
+covered_nothing s e p h = rw h (go (off_border s.width s.height p && covers e p))
   where
     go : (b : Bool) → ◌≡◌ {A = List Met} (cond b [] []) []
     go true = refl
@@ -96,36 +95,6 @@ four_pairs s e a p =
     let home = pair_met s e (pair (after a p) p) in
     ap (λ (ms : List Met). there ++ (back ++ (on ++ ms))) (append-nil home) ∙ sym (append_assoc there back (on ++ home))
 
-turns_out : {B : Type 0} (f : ℕ → List B) (n a b : ℕ) → b ≤ a → ((i : ℕ) → i < n → f i ≡ []) → flat_map f (span 0 n) ≡ flat_map f (span a (b - a))
-unfolding flat_map tabulate
-turns_out f n a b h none =
-    let e : b - a ≡ 0 = omega arith in
-    turns_nothing f 0 n (λ i l. none (0 + i) (omega arith)) ∙ sym (ap (λ (k : ℕ). flat_map f (span a k)) e)
-
--- of n turns, those out of a range bring nothing
-pub turns_narrowed : {B : Type 0} (f : ℕ → List B) (n a b : ℕ) → b ≤ n → ((i : ℕ) → i < n → in_range a b i ≡ false → f i ≡ []) → flat_map f (span 0 n) ≡ flat_map f (span a (b - a))
-unfolding in_range
-turns_narrowed f n a b h none = go (below_or a b)
-  where
-    early : (i : ℕ) → i < n → i < a → f i ≡ []
-    early i l k = none i l (rw (lt-leb a i k))
-
-    late : (i : ℕ) → i < n → b ≤ i → f i ≡ []
-    late i l k = none i l (rw (le-ltb i b k) (and-false _))
-
-    go : (a < b) ⊎ (b ≤ a) → flat_map f (span 0 n) ≡ flat_map f (span a (b - a))
-    go (inl k) = turns_amid f n a b (omega arith) h (λ i l. early i (omega arith) l) late
-    go (inr k) = turns_out f n a b k (λ i l. split i l (below_or i a))
-      where
-        split : (i : ℕ) → i < n → (i < a) ⊎ (a ≤ i) → f i ≡ []
-        split i l (inl m) = early i l m
-        split i l (inr m) = late i l (omega arith)
-
--- the loop's end, where the turns out of its range bring nothing
-pub folds_narrowed : {S A : Type 0} (step : S → A → S) (f : ℕ → List A) (s : S) (n a b x : ℕ) {cur : S} → b ≤ n → ((i : ℕ) → i < n → in_range a b i ≡ false → f i ≡ []) → x - a ≡ b - a
-    → cur ≡ fold step s (flat_map f (span a (x - a))) → cur ≡ fold step s (flat_map f (span 0 n))
-folds_narrowed {S} step f s n a b x h none k e = e ∙ ap (λ (i : ℕ). fold step s (flat_map f (span a i))) k ∙ sym (ap (fold step s) (turns_narrowed f n a b h none))
-
 -- ---- an edge's crossings, row by row
 
 module _ {B : Type 0} (g : Met → List B) (s : OutlineView) (e : Ends Float) where
@@ -155,45 +124,40 @@ module _ {B : Type 0} (g : Met → List B) (s : OutlineView) (e : Ends Float) wh
       ∙ turns_by_rows by_number row_items s.width s.height one_row
 
   -- what a pixel brings, with its neighbour before and with the one after
-  pub pixel_by_neighbours : (a : Axis) (p : Pixel) → a ≡ pair_axis e
+  pixel_by_neighbours : (a : Axis) (p : Pixel) → a ≡ pair_axis e
       → flat_map g (pixel_met s e p) ≡ flat_map g (both_met s e p (before a p)) ++ flat_map g (both_met s e p (after a p))
   unfolding pixel_met
   pixel_by_neighbours a p same =
       rw same (ap (flat_map g) (four_pairs s e (pair_axis e) p) ∙ flat_map-append g (both_met s e p (before (pair_axis e) p)) (both_met s e p (after (pair_axis e) p)))
 
   -- where the edge does not cover a pixel it brings nothing, nor on the border
-  uncovered : (p : Pixel) → within_border s.width s.height p && covers e p ≡ false → flat_map g (covered_met s e p) ≡ []
+  uncovered : (p : Pixel) → off_border s.width s.height p && covers e p ≡ false → flat_map g (covered_met s e p) ≡ []
   unfolding covered_met flat_map
   uncovered p h = rw h refl
 
   on_border : (x y : ℕ) → (0 < x → x + 1 < s.width → covers e (pixel x y) ≡ false) → flat_map g (covered_met s e (pixel x y)) ≡ []
-  unfolding within_border
+  unfolding off_border
   on_border x y h = uncovered (pixel x y) (go (ltb 0 x) refl (ltb (x + 1) s.width) refl)
     where
       rest : Bool
       rest = ltb 0 y && ltb (y + 1) s.height
 
-      go : (a : Bool) → ltb 0 x ≡ a → (b : Bool) → ltb (x + 1) s.width ≡ b → within_border s.width s.height (pixel x y) && covers e (pixel x y) ≡ false
+      go : (a : Bool) → ltb 0 x ≡ a → (b : Bool) → ltb (x + 1) s.width ≡ b → off_border s.width s.height (pixel x y) && covers e (pixel x y) ≡ false
       go true p true q = rw (h (ltb-true 0 x p) (ltb-true (x + 1) s.width q)) (and-false _)
       go true p false q = rw (p, q) refl
       go false p b q = rw p refl
 
-  -- a row's columns out of a narrowed range bring nothing
-  pub column_missed : (y : ℕ) (r : Span) → Narrowed (λ x. covers e (pixel x y)) s.width r → (x : ℕ) → x < s.width → in_range r.start r.end x ≡ false → column_items y x ≡ []
-  column_missed y r k x l o = on_border x y (λ a b. k.missed x a b o)
-
   unmet : (x y : ℕ) → (0 < y → y + 1 < s.height → meets_side e.q0.y e.q1.y y ≡ false) → flat_map g (covered_met s e (pixel x y)) ≡ []
-  unfolding within_border covers meets_square
+  unfolding off_border covers meets_square
   unmet x y h = uncovered (pixel x y) (go (ltb 0 y) refl (ltb (y + 1) s.height) refl)
     where
-      go : (a : Bool) → ltb 0 y ≡ a → (b : Bool) → ltb (y + 1) s.height ≡ b → within_border s.width s.height (pixel x y) && covers e (pixel x y) ≡ false
+      go : (a : Bool) → ltb 0 y ≡ a → (b : Bool) → ltb (y + 1) s.height ≡ b → off_border s.width s.height (pixel x y) && covers e (pixel x y) ≡ false
       go true p true q = rw (h (ltb-true 0 y p) (ltb-true (y + 1) s.height q), and-false (meets_side e.q0.x e.q1.x x), and-false (not (has_nan e))) (and-false _)
       go true p false q = rw (p, q, and-false (ltb 0 x && ltb (x + 1) s.width)) refl
       go false p b q = rw (p, and-false (ltb 0 x && ltb (x + 1) s.width)) refl
 
-  -- and so do its rows
-  pub row_missed : (r : Span) → Narrowed (λ y. meets_side e.q0.y e.q1.y y) s.height r → (y : ℕ) → y < s.height → in_range r.start r.end y ≡ false → row_items y ≡ []
-  row_missed r k y l o = turns_nothing (column_items y) 0 s.width (λ x m. unmet (0 + x) y (λ a b. k.missed y a b o))
+  row_missed : (y : ℕ) → (0 < y → y + 1 < s.height → meets_side e.q0.y e.q1.y y ≡ false) → row_items y ≡ []
+  row_missed y h = turns_nothing (column_items y) 0 s.width (λ x m. unmet (0 + x) y h)
 
   -- ---- a pass's loops, each step one item
 
@@ -206,9 +170,15 @@ module _ {B : Type 0} (g : Met → List B) (s : OutlineView) (e : Ends Float) wh
 
     pub row_ended : {cur : S} (y : ℕ) (r : Span) (x : ℕ) → Narrowed (λ x. covers e (pixel x y)) s.width r → x - r.start ≡ r.end - r.start
         → cur ≡ fold step z (flat_map (column_items y) (span r.start (x - r.start))) → cur ≡ fold step z (row_items y)
-    row_ended y r x k same inv = let l = k.last in folds_narrowed step (column_items y) z s.width r.start r.end x (omega arith) (column_missed y r k) same inv
+    row_ended y r x k same inv =
+        let l = k.last in
+        folds_narrowed step (column_items y) z s.width r.start r.end x (omega arith)
+        (λ i m b. on_border i y (λ p q. k.before.missed i p q b)) (λ i m b. on_border i y (λ p q. k.from.missed i p q b)) same inv
 
     pub edge_ended : {cur : S} (r : Span) (y : ℕ) → Narrowed (λ y. meets_side e.q0.y e.q1.y y) s.height r → y - r.start ≡ r.end - r.start
         → cur ≡ fold step z (flat_map row_items (span r.start (y - r.start))) → cur ≡ fold step z (flat_map g (edge_met s e))
     edge_ended r y k same inv =
-        let l = k.last in folds_narrowed step row_items z s.height r.start r.end y (omega arith) (row_missed r k) same inv ∙ sym (ap (fold step z) met_by_rows)
+        let l = k.last in
+        folds_narrowed step row_items z s.height r.start r.end y (omega arith)
+        (λ i m b. row_missed i (λ p q. k.before.missed i p q b)) (λ i m b. row_missed i (λ p q. k.from.missed i p q b)) same inv
+        ∙ sym (ap (fold step z) met_by_rows)

@@ -14,7 +14,7 @@ use Rattle.inside.specs.Inside.{present}
 use Rattle.outlines.specs.Formula.{Ends, ends, Crossing}
 use Rattle.outlines.specs.Leaf.{crossing_between}
 use Rattle.outlines.specs.Covered.{covers}
-use Rattle.outlines.specs.Neighbours.{pair_axis, neighbour_pair, within_border}
+use Rattle.outlines.specs.Neighbours.{pair_axis, neighbour_pair, off_border}
 
 -- Of the map a pass sees which pixels are empty, and nothing else: `shows` says which show a face. Beside it the edges, the matrix `transform_world2pix`, the vertices, and the
 -- image's width and height.
@@ -78,7 +78,7 @@ pixel_met s e p = flat_map (λ k. pair_met s e (neighbour_pair (pair_axis e) p k
 
 -- where the edge covers the pixel, off the border
 unfoldable pub covered_met : OutlineView → Ends Float → Pixel → List Met
-covered_met s e p = cond (within_border s.width s.height p && covers e p) (pixel_met s e p) []
+covered_met s e p = cond (off_border s.width s.height p && covers e p) (pixel_met s e p) []
 
 -- of an edge: "pixels run in rising number"
 unfoldable pub edge_met : OutlineView → Ends Float → List Met
@@ -103,8 +103,7 @@ outline_items f s = flat_map (edge_turn f s) (span 0 (edge_total s))
 
 -- 8. "question 8 covers both ends of each edge"
 unfoldable pub edge_projects : OutlineView → ℕ → Bool
-edge_projects s k =
-    present (project s.matrix (vertex_at s.vertices (outline_edge_at s.edges k).v0)) && present (project s.matrix (vertex_at s.vertices (outline_edge_at s.edges k).v1))
+edge_projects s k = present (project_edge s.matrix s.vertices (outline_edge_at s.edges k))
 
 abbrev pub edges_project : OutlineView → Bool
 edges_project s = every (edge_projects s) (span 0 (edge_total s))

@@ -8,16 +8,13 @@ use Rattle.outlines.specs.Formula.{Ends}
 use Rattle.outlines.specs.Neighbours.{pair}
 use Rattle.outline_views.specs.Outline.{OutlineView, Met, pair_met}
 
--- whole edges and vertices, each edge naming vertices that are there, and an image of whole size
+-- each edge names vertices that are there, and the map has an entry for each pixel
 pub record SoundOutline (cedge : List ℕ) (xyz : List Float) (map : List ℕ) (w h : ℕ) : Type 0 where
-  pub size : Sized 1 w h
-  pub edges : 2 * (length cedge / 2) ≡ length cedge
-  pub vertices : 3 * (length xyz / 3) ≡ length xyz
   pub named : all_below (length xyz / 3) cedge ≡ true
   pub whole : length map ≡ w * h
 
--- a pixel of an image with a neighbour on each side along an axis
-pub record Inside (a : Axis) (w h : ℕ) (p : Pixel) : Type 0 where
+-- a pixel of an image of at most 4,096 × 4,096 with a neighbour on each side along an axis
+pub record Amid (a : Axis) (w h : ℕ) (p : Pixel) : Type 0 where
   pub left : a.right ≤ p.column
   pub right : p.column + a.right < w
   pub upper : a.down ≤ p.row

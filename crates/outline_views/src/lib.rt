@@ -2,10 +2,9 @@
 // public call.
 #![tactic(auto)]
 
-ghost use Rattle.std.specs.Prelude.{◌≡◌, true, false, ◌&&◌, cond, ◌+◌, ◌*◌, ◌/◌, ◌≤◌, ◌<◌, length, List, [], IfOk, IfSome, Float};
+ghost use Rattle.std.specs.Prelude.{◌≡◌, false, ◌&&◌, cond, ◌+◌, ◌*◌, ◌/◌, ◌≤◌, ◌<◌, length, [], IfOk, IfSome, Float};
 ghost use Rattle.outlines.specs.Formula as formula;
 ghost use Rattle.questions.specs.Answer.{code_of};
-ghost use Rattle.questions.specs.Laws.{Sized};
 ghost use Rattle.pixels.specs.Answer.{axis_of};
 ghost use Rattle.outlines.specs.Covered.{covers};
 ghost use Rattle.outlines.specs.Neighbours.{pair_axis};
@@ -13,9 +12,8 @@ ghost use Rattle.outlines.specs.Answer.{ends_of, pixel_of};
 ghost use Rattle.outlines.specs.Leaf.{crossing_between};
 ghost use Rattle.pixels.specs.Pixel.{number_in, centre_of};
 ghost use Rattle.outline_views.specs.Outline.{outline_edge_at, project_edge, edges_project, edge_projects, met_at, pixel_met, covered_met, shown_in, outline_view, exact_images, outline_code};
-ghost use Rattle.outline_views.specs.Steps.{SoundOutline, Inside, OffBorder, both_met};
+ghost use Rattle.outline_views.specs.Steps.{SoundOutline, Amid, OffBorder, both_met};
 
-use geometry::Projected;
 use outline_spans::Reach;
 use outlines::{Crossing, Ends};
 use pixels::{Axis, ImageSize, Pixel};
@@ -167,13 +165,11 @@ impl Outline<'_> {
         requires { k < length self.now.cedge2vtx.now / 2 }
         ensures { result ≡ edge_projects (seen_of self.now) k }
     {
-        let f = self.edge(k);
-        geometry::project(self.m, meshes::vertex(self.vtx2xyz, f.v0)).is_some()
-            && geometry::project(self.m, meshes::vertex(self.vtx2xyz, f.v1)).is_some()
+        self.project(self.edge(k)).is_some()
     }
 
     // Question 8, of each edge.
-    pub fn all_project(&self) -> bool
+    fn all_project(&self) -> bool
         ensures { result ≡ edges_project (seen_of self.now) }
     {
         (0..self.edge_count()).all(|k| self.edge_projects(k))
@@ -240,7 +236,7 @@ impl Outline<'_> {
     // Whether a pixel and its two neighbours along an axis do not all show a face, nor are all empty. Where not, no crossing is there.
     #[tactic(auto, using(crate::specs::Laws::nothing_met))]
     fn parted(&self, axis: Axis, p: Pixel) -> bool
-        requires { Inside (axis_of axis) self.now.size.w self.now.size.h (pixel_of p) }
+        requires { Amid (axis_of axis) self.now.size.w self.now.size.h (pixel_of p) }
         ensures { result ≡ false → (e : formula.Ends Float) → pair_axis e ≡ axis_of axis → pixel_met (seen_of self.now) e (pixel_of p) ≡ [] }
     {
         let here = self.shows(p);

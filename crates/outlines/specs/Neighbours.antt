@@ -9,17 +9,17 @@ use Rattle.pixels.specs.Edge.{Axis, hedge, vedge, Edge}
 use Rattle.outlines.specs.Formula.{Ends}
 
 -- |x|: of −0, 0
-abbrev pub magnitude : Float → Float
-magnitude x = float_with_sign false x
+abbrev pub absolute : Float → Float
+absolute x = float_with_sign false x
 
--- The edge is steeper than it is wide: its pixels are paired with those beside them, else with those above and below.
+-- The edge goes farther down than across: its pixels are paired with those beside them, else with those above and below.
 unfoldable pub is_steep : Ends Float → Bool
-is_steep e = lt (magnitude (floats.sub e.q1.x e.q0.x)) (magnitude (floats.sub e.q1.y e.q0.y))
+is_steep e = lt (absolute (floats.sub e.q1.x e.q0.x)) (absolute (floats.sub e.q1.y e.q0.y))
 
--- along the axis: the pixel before, and the one after
 unfoldable pub pair_axis : Ends Float → Axis
 pair_axis e = cond (is_steep e) vedge hedge
 
+-- along the axis: the pixel before, and the one after
 abbrev pub before : Axis → Pixel → Pixel
 before a p = pixel (p.column - a.right) (p.row - a.down)
 
@@ -37,5 +37,5 @@ neighbour_pair a p (suc (suc zero)) = pair p (after a p)
 neighbour_pair a p (suc (suc (suc k))) = pair (after a p) p
 
 -- "Pixels on the image border are passed over": it has a neighbour on each side
-unfoldable pub within_border : ℕ → ℕ → Pixel → Bool
-within_border w h p = (ltb 0 p.column && ltb (p.column + 1) w) && (ltb 0 p.row && ltb (p.row + 1) h)
+unfoldable pub off_border : ℕ → ℕ → Pixel → Bool
+off_border w h p = (ltb 0 p.column && ltb (p.column + 1) w) && (ltb 0 p.row && ltb (p.row + 1) h)

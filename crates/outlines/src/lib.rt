@@ -58,7 +58,7 @@ fn scaled2(k: f32, a: Vec2) -> Vec2
     }
 }
 
-// Is d no divisor?
+// Is d a divisor, and are rc and re on both ways?
 #[tactic(auto, unfolding(crate::specs::Leaf::crosses))]
 fn crosses(k: Crossing) -> bool
     ensures { result ≡ leaf.crosses (crossing_in k) }
@@ -126,7 +126,7 @@ pub fn has_nan(e: Ends) -> bool
 
 // Along one axis, does what lies from a to b, either first, meet the side from i to i + 1?
 #[tactic(auto, unfolding(crate::specs::Covered::meets_side))]
-pub fn meets_side(a: f32, b: f32, i: usize) -> bool
+fn meets_side(a: f32, b: f32, i: usize) -> bool
     requires { i < 4096 }
     ensures { result ≡ covered.meets_side a b i }
 {
@@ -192,7 +192,7 @@ pub fn covers(e: Ends, p: Pixel) -> bool
         && parts_corners(e, p)
 }
 
-// Is the edge steeper than it is wide?
+// Does the edge go farther down than across?
 #[tactic(auto, unfolding(crate::specs::Neighbours::is_steep))]
 fn is_steep(e: Ends) -> bool
     ensures { result ≡ neighbours.is_steep (ends_of e) }
@@ -200,7 +200,7 @@ fn is_steep(e: Ends) -> bool
     (e.q1.x - e.q0.x).abs() < (e.q1.y - e.q0.y).abs()
 }
 
-// The axis along which a steep edge's pixels have their neighbours, beside them, and another's, above and below.
+// The axis along which an edge's pixels have their neighbours: beside them where it goes farther down than across, else above and below.
 #[tactic(auto, unfolding(crate::specs::Neighbours::pair_axis))]
 pub fn pair_axis(e: Ends) -> Axis
     ensures axis { axis_of result ≡ neighbours.pair_axis (ends_of e) }

@@ -74,7 +74,7 @@ const MOST_CHANNELS: usize = 16;
 pub const MOST_COUNT: usize = 1048576;
 
 // Outline edges, at most: three for each face.
-pub const MOST_EDGES: usize = 3145728;
+const MOST_EDGES: usize = 3145728;
 
 // The map's entry of a pixel that shows no face.
 pub const EMPTY: u32 = 4294967295;
@@ -135,10 +135,10 @@ pub fn numbers_ok(first: u32, faces: usize) -> bool
 }
 
 // Question 6, and question 10 of outline edges: is every vertex number below `count`?
-pub fn all_below(count: usize, tri2vtx: &[u32]) -> bool
-    ensures { result ≡ all_below count tri2vtx.now }
+pub fn all_below(count: usize, vertices: &[u32]) -> bool
+    ensures { result ≡ all_below count vertices.now }
 {
-    tri2vtx.iter().all(|v| (*v as usize) < count)
+    vertices.iter().all(|v| (*v as usize) < count)
 }
 
 // Question 7: is every map entry below `count`, or empty? Then one more than it, which wraps to 0 for empty, is at most `count`, and the greatest of these answers for all.

@@ -4,8 +4,9 @@ use Rattle.std.specs.Float.{fin, Format}
 use Rattle.std.specs.Float.Ieee.{le, add, sub, mul, neg}
 use Rattle.std.specs.Float.Ieee.Positive.{den, den_pos}
 use Rattle.std.specs.Float.Ieee.Scale.{finite}
-use Rattle.std.proofs.Common.{arith, mul-pos, mul-le-mul_right}
-use Rattle.rounding.specs.Order.{le_refl, le_neg, neg_finite}
+use Rattle.std.proofs.Common.{◌∙◌, arith, mul-pos, mul-le-mul_right}
+use Rattle.rounding.specs.Order.{le_refl, le_neg}
+use Rattle.rounding.specs.Finite.{finite_neg}
 use Rattle.rounding.specs.Signed.{number, number_of, plus, minus, fractions_of_le, rounded_mono, add_rounded, mul_rounded}
 
 pub add_mono : (f : Format) (x x' y y' : Float) → finite x ≡ true → finite x' ≡ true → finite y ≡ true → finite y' ≡ true
@@ -20,11 +21,11 @@ add_mono f x x' y y' X X' Y Y' h k =
 
 pub sub_mono_left : (f : Format) (x x' c : Float) → finite x ≡ true → finite x' ≡ true → finite c ≡ true → le x x' ≡ true → le (sub f x c) (sub f x' c) ≡ true
 unfolding sub
-sub_mono_left f x x' c X X' C h = let C = neg_finite c C in add_mono f x x' (neg c) (neg c) X X' C C h (le_refl (neg c) C)
+sub_mono_left f x x' c X X' C h = let C = finite_neg c ∙ C in add_mono f x x' (neg c) (neg c) X X' C C h (le_refl (neg c) C)
 
 pub sub_anti_right : (f : Format) (a y y' : Float) → finite a ≡ true → finite y ≡ true → finite y' ≡ true → le y y' ≡ true → le (sub f a y') (sub f a y) ≡ true
 unfolding sub
-sub_anti_right f a y y' A Y Y' h = add_mono f a a (neg y') (neg y) A A (neg_finite y' Y') (neg_finite y Y) (le_refl a A) (le_neg y y' h)
+sub_anti_right f a y y' A Y Y' h = add_mono f a a (neg y') (neg y) A A (finite_neg y' ∙ Y') (finite_neg y ∙ Y) (le_refl a A) (le_neg y y' h)
 
 -- the fraction (g − l) / e, where l ≤ g, times two others
 module _ (g l e p n d p' n' d' : ℕ) (s : l ≤ g) (h : p * d' + n' * d ≤ p' * d + n * d') where

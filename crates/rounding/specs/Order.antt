@@ -25,6 +25,9 @@ le_lt x y z h k = is_true _ (Std.lt_of_le_of_lt x y z (passes _ h) (passes _ k))
 pub lt_le : (x y z : Float) → lt x y ≡ true → le y z ≡ true → lt x z ≡ true
 lt_le x y z h k = is_true _ (Std.lt_of_lt_of_le x y z (passes _ h) (passes _ k))
 
+pub le_of_lt : (x y : Float) → lt x y ≡ true → le x y ≡ true
+le_of_lt x y h = is_true _ (Std.le_of_lt x y (passes _ h))
+
 -- what lies between two finite values is finite
 pub between_finite : (a x b : Float) → finite a ≡ true → finite b ≡ true → le a x ≡ true → le x b ≡ true → finite x ≡ true
 unfolding le lt eq
@@ -36,12 +39,6 @@ between_finite (fin s m e) (inf false) nan p q h k = q
 between_finite (fin s m e) (inf false) (inf t) p q h k = absurd (false≢true q)
 between_finite (fin s m e) (inf false) (fin t n d) p q h k = k
 between_finite (fin s m e) (fin t n d) b p q h k = refl
-
-pub neg_finite : (x : Float) → finite x ≡ true → finite (neg x) ≡ true
-unfolding neg
-neg_finite nan h = h
-neg_finite (inf s) h = h
-neg_finite (fin s m e) h = refl
 
 -- a change of sign turns the order round
 pub le_neg : (x y : Float) → le x y ≡ true → le (neg y) (neg x) ≡ true

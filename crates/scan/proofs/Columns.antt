@@ -13,7 +13,7 @@ use Rattle.cells.specs.Steps.{Spans}
 use Rattle.rules.specs.Visits.{down, visited}
 use Rattle.rules.proofs.Laws.Visited.{visited-append, spans-visited}
 use Rattle.boxes.specs.declared.Box.{Box}
-use Rattle.boxes.proofs.Reaching.{below_or}
+use Rattle.lists.specs.Laws.Tests.{below_or}
 use Rattle.blocks.specs.Rows.{rows_down}
 use Rattle.blocks.proofs.Down.{take-column}
 use Rattle.scan.specs.Columns.{box_visits}

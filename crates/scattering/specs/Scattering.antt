@@ -1,23 +1,19 @@
 -- What a gradient in the image, at a point of a face, adds to `dldw_vtx2xyz`, in order.
-use Rattle.std.specs.Prelude.{ℕ, ◌+◌, ◌*◌, List, [], ◌∷◌, ◌++◌, Float}
+use Rattle.std.specs.Prelude.{List, [], ◌++◌, Float}
 use Rattle.std.proofs.Math.Option.{Option, none, some}
 use Rattle.geometry.specs.Arith.{floats}
 use Rattle.geometry.specs.Vector.{Vec2, Vec3, Weights, Projected, Triangle}
 use Rattle.geometry.specs.Leaf.{entries}
 use Rattle.jacobians.specs.Formula.{jacobian, mult_mat3}
 use Rattle.meshes.specs.Mesh.{Face}
-use Rattle.meshes.specs.Sums.{Addition, addition}
+use Rattle.rays.specs.Space.{scaled3}
+use Rattle.meshes.specs.Sums.{Addition, at_vertex}
 use Rattle.tris.specs.Weights.{world_in}
 use Rattle.tris.specs.Tri.{point_on}
 
--- b times g to the three coordinates of vertex v
-unfoldable pub to_vertex : ℕ → Float → Vec3 Float → List Addition
-to_vertex v b g =
-    addition (3 * v) (floats.mul b g.x) ∷ addition (3 * v + 1) (floats.mul b g.y) ∷ addition (3 * v + 2) (floats.mul b g.z) ∷ []
-
 -- corner by corner, each by its weight
 unfoldable pub to_face : Face → Weights Float → Vec3 Float → List Addition
-to_face f b g = to_vertex f.v0 b.b0 g ++ (to_vertex f.v1 b.b1 g ++ to_vertex f.v2 b.b2 g)
+to_face f b g = at_vertex f.v0 (scaled3 floats b.b0 g) ++ (at_vertex f.v1 (scaled3 floats b.b1 g) ++ at_vertex f.v2 (scaled3 floats b.b2 g))
 
 -- the gradient g in the image, taken back to the world at the point x
 unfoldable pub to_point : List Float → Vec3 Float → Vec3 Float → Vec3 Float

@@ -7,23 +7,11 @@ ghost use Rattle.meshes.specs.Answer.{face_of};
 ghost use Rattle.meshes.specs.Mesh.{Among};
 ghost use Rattle.meshes.specs.Sums.{summed};
 ghost use Rattle.tris.specs.Answer.{corners_in, projected_in};
-ghost use Rattle.scattering.specs.Scattering.{to_vertex, to_face, given};
+ghost use Rattle.scattering.specs.Scattering.{to_face, given};
 
 use geometry::{Vec2, Vec3, Weights};
 use meshes::Face;
 use tris::Tri;
-
-// b times g to the coordinates of vertex v.
-#[tactic(auto, unfolding(crate::specs::Scattering::to_vertex, meshes::specs::Sums::summed))]
-fn add_vertex(sums: &mut [f32], v: usize, b: f32, g: Vec3)
-    requires { v < length sums.old / 3 }
-    ensures { sums.new ≡ summed sums.old (to_vertex v b (point3 g)) }
-{
-    let i = 3 * v;
-    meshes::add_at(sums, i, b * g.x);
-    meshes::add_at(sums, i + 1, b * g.y);
-    meshes::add_at(sums, i + 2, b * g.z);
-}
 
 // Each corner of a face by its weight.
 #[tactic(auto, using(meshes::specs::Laws::summed_then), unfolding(crate::specs::Scattering::to_face))]
@@ -31,9 +19,9 @@ fn add_face(sums: &mut [f32], f: Face, b: Weights, g: Vec3)
     requires { Among (length sums.old / 3) (face_of f) }
     ensures { sums.new ≡ summed sums.old (to_face (face_of f) (weights_of b) (point3 g)) }
 {
-    add_vertex(sums, f.v0, b.b0, g);
-    add_vertex(sums, f.v1, b.b1, g);
-    add_vertex(sums, f.v2, b.b2, g);
+    meshes::add_vertex(sums, f.v0, rays::scaled3(b.b0, g));
+    meshes::add_vertex(sums, f.v1, rays::scaled3(b.b1, g));
+    meshes::add_vertex(sums, f.v2, rays::scaled3(b.b2, g));
 }
 
 // The gradient g in the image at the point q, to a face and its `Tri`.

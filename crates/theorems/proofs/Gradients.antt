@@ -17,7 +17,7 @@ use Rattle.questions.specs.Laws.{face_below}
 use Rattle.geometry.specs.Vector.{Vec2, Vec3, Weights, Projected, Triangle}
 use Rattle.meshes.specs.Mesh.{Face, face_at}
 use Rattle.meshes.specs.View.{View, view_of, named, entry_at}
-use Rattle.meshes.specs.Sums.{Addition, added, summed}
+use Rattle.meshes.specs.Sums.{Addition, at_vertex, added, summed}
 use Rattle.meshes.specs.Laws.{named_none, named_some}
 use Rattle.rays.specs.Space.{Ray}
 use Rattle.pixel_rays.specs.Rays.{Image, ray_of}
@@ -35,7 +35,7 @@ use Rattle.pairs.specs.Pairs.{edge_view, first_of, second_of}
 use Rattle.pairs.specs.Gradient.{PixelValues, dldr}
 use Rattle.tris.specs.Tri.{point_on, unormal}
 use Rattle.crossings.specs.Crossing.{skipped, coefficient0, coefficient1, g_pix}
-use Rattle.scattering.specs.Scattering.{to_vertex, to_face, to_point, spread}
+use Rattle.scattering.specs.Scattering.{to_face, to_point, spread}
 use Rattle.share_rules.specs.Shares.{Share, share, alone, crossing, crossing_of, intersection, received, between, shares_at}
 use Rattle.share_rules.specs.Additions.{additions_of, pair_additions}
 use Rattle.axis_bwd.specs.Additions.{edge_down, axis_additions}
@@ -44,7 +44,7 @@ use Rattle.edge_bwd.specs.Calls.{pass_additions, edge_bwd}
 use Rattle.edge_bwd.specs.Laws as edges_laws
 use Rattle.outlines.specs.Formula.{Ends}
 use Rattle.outline_views.specs.Outline.{OutlineView, OutlineEdge, outline_edge_at, edge_total, Met, edge_met, edge_items, outline_items}
-use Rattle.antialias_bwd.specs.Additions.{at_vertex, to_ends, met_additions, crossing_additions}
+use Rattle.antialias_bwd.specs.Additions.{to_ends, met_additions, crossing_additions}
 use Rattle.antialias_bwd.specs.Calls.{bwd_antialias_code, outline_additions, antialiasing_bwd}
 use Rattle.theorems.specs.Gradients.{Free, Unnamed, NoEnd, OffOutline}
 
@@ -185,7 +185,7 @@ vertex_avoid v k h u n g a (Memᴰ.tail (Memᴰ.tail (Memᴰ.tail m))) e = Mem�
 
 module _ (f : Face) (v : ℕ) (not-corner : Free f v) (k : ℕ) (h : k < 3) where
   face_avoid : (b : Weights Float) (g : Vec3 Float) → Avoids (v * 3 + k) (to_face f b g)
-  unfolding to_face to_vertex at_vertex
+  unfolding to_face
   face_avoid b g =
       avoids_append _ _ _ (vertex_avoid v k h f.v0 not-corner.0 _) (avoids_append _ _ _ (vertex_avoid v k h f.v1 not-corner.1 _) (vertex_avoid v k h f.v2 not-corner.2 _))
 

@@ -1,12 +1,12 @@
--- At f32 the formulas of this crate are those of the product's definitions: what `interpolate` writes, what `interpolate_bwd`, `bwd` and
--- `bwd_antialias` add, and the weights of drawing.
+-- At f32 the formulas of this crate are those of the product's definitions: what `interpolate` and `antialias` write, what
+-- `interpolate_bwd`, `bwd` and `bwd_antialias` add, and the weights of drawing.
 use Rattle.std.specs.Prelude.{ℕ, ◌≡◌, Bool, true, false, not, ◌&&◌, cond, Float}
 use Rattle.std.proofs.Math.Path.{refl, ap₂}
 use Rattle.std.proofs.Common.{sym, ◌∙◌, ap}
 use Rattle.std.proofs.Math.Option.{Option, none, some}
 use mathlib.Core.List.{List, [], ◌∷◌, ◌++◌, map, map-append, flat_map}
 use Rattle.std.specs.Float.{nan}
-use Rattle.std.specs.Float.Ieee.{eq}
+use Rattle.std.specs.Float.Ieee.{lt, eq}
 use Rattle.std.specs.Float.Ieee.Scale.{finite}
 use Rattle.geometry.specs.Arith.{floats}
 use Rattle.geometry.specs.Vector.{Vec2, Vec3, Weights, weighed_by, Triangle}
@@ -17,6 +17,7 @@ use Rattle.meshes.specs.Mesh as Mesh
 use Rattle.meshes.specs.Mesh.{Face, vertex_at}
 use Rattle.meshes.specs.View.{View}
 use Rattle.meshes.specs.Sums as Sums
+use Rattle.meshes.specs.Sums.{at_vertex}
 use Rattle.lists.specs.Lists.{span}
 use Rattle.pixel_rays.specs.Rays.{Image, ray_of}
 use Rattle.vertex_values.specs.Pass.{Vertices}
@@ -27,17 +28,20 @@ use Rattle.pixel_bwd.specs.Additions.{sums}
 use Rattle.image_bwd.specs.Summed as Summed
 use Rattle.image_bwd.specs.Summed.{summed_over}
 use Rattle.tris.specs.Tri.{point_on}
-use Rattle.scattering.specs.Scattering.{to_vertex, to_face, to_point, spread}
+use Rattle.scattering.specs.Scattering.{to_face, to_point, spread}
 use Rattle.jacobians.specs.Formula.{Mat3, jacobian}
-use Rattle.outlines.specs.Formula.{Ends, crossing_backward}
+use Rattle.pixels.specs.Pixel.{half}
+use Rattle.outlines.specs.Formula.{Ends, crossing_backward, mixed}
 use Rattle.outline_views.specs.Outline.{OutlineEdge, Met}
+use Rattle.antialias.specs.Smoothing.{pixel_value, write, smoothed}
 use Rattle.antialias_bwd.specs.Formula.{pulled_back}
-use Rattle.antialias_bwd.specs.Additions.{crossing_dldr, at_vertex, to_ends, met_additions, crossing_additions}
+use Rattle.antialias_bwd.specs.Additions.{crossing_dldr, to_ends, met_additions, crossing_additions}
 use Rattle.truth.specs.Pixel.{value_at, incoming, backward, gradients_at, to_value}
 use Rattle.truth.specs.Projection.{pulled}
+use Rattle.truth.specs.Crossing.{part}
 use Rattle.truth.specs.Weights.{area_sum, weights_in}
 use Rattle.truth.specs.Image.{Scene, Addition, corners_at, values_at, to_xyz, to_val, pixel_xyz, pixel_val, xyz_at, val_at, image_xyz, image_val, added, summed}
-use Rattle.truth.specs.Ties.{scene_of, to_place}
+use Rattle.truth.specs.Ties.{scene_of}
 
 -- ---- `interpolate`
 
@@ -93,8 +97,8 @@ module _ (g : Image) (s : Vertices) (v : View) (dldw : List Float) where
 -- what it adds for a share: of the face f with the corners x, the weights b of the point, and the gradient g in the image
 pub edge_at_floats : (m : List Float) (x : Triangle (Vec3 Float)) (f : Face) (g : Vec3 Float) (b : Weights Float)
     → (let to = pulled floats (entries m) b g x in
-    spread m x f g (some b) ≡ to_place f.v0 to.p0 ++ (to_place f.v1 to.p1 ++ to_place f.v2 to.p2))
-unfolding spread to_face to_vertex to_point point_on pulled shares scaled3
+    spread m x f g (some b) ≡ at_vertex f.v0 to.p0 ++ (at_vertex f.v1 to.p1 ++ at_vertex f.v2 to.p2))
+unfolding spread to_face to_point point_on pulled shares scaled3
 edge_at_floats m x f g b = refl
 
 -- ---- `bwd_antialias`
@@ -103,9 +107,16 @@ edge_at_floats m x f g b = refl
 pub outline_at_floats : (m xyz val dldw : List Float) (v : OutlineEdge) (e : Ends Float) (k : Met)
     → (let g = crossing_backward floats e k.crossing (crossing_dldr val dldw k) in
     let j : ℕ → Mat3 Float = λ i. jacobian floats (entries m) (vertex_at xyz i) in
-    crossing_additions m xyz val dldw v e k ≡ to_place v.v0 (pulled_back floats (j v.v0) g.q0) ++ to_place v.v1 (pulled_back floats (j v.v1) g.q1))
-unfolding crossing_additions met_additions to_ends at_vertex
+    crossing_additions m xyz val dldw v e k ≡ at_vertex v.v0 (pulled_back floats (j v.v0) g.q0) ++ at_vertex v.v1 (pulled_back floats (j v.v1) g.q1))
+unfolding crossing_additions met_additions to_ends
 outline_at_floats m xyz val dldw v e k = refl
+
+-- what `antialias` writes for a crossing, by its place on the way
+pub smoothed_at_floats : (vin : List Float) (k : Met)
+    → (let to : Bool → Float = λ below. mixed floats (part floats below half k.crossing.rc) (pixel_value vin k.first) (pixel_value vin k.second) in
+    smoothed vin k ≡ cond (lt k.crossing.rc half) (write k.first (to true)) (write k.second (to false)))
+unfolding smoothed part
+smoothed_at_floats vin k = refl
 
 -- ---- drawing
 

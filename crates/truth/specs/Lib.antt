@@ -13,7 +13,7 @@
 --   Crossing    `crossing_true`               its backward formula is the derivative of its place on that way, rc
 --   Crossing    `outline_true`, `smoothed_true`  so of the edge's vertices, and of the pixel that is smoothed
 --   Weights     `weights-sum`, `weights_place`, `weights_depth_lem`  the corner weights of drawing: they sum to 1, place the pixel and give the depth
---   Ties        at f32 these formulas are what `interpolate` writes, what `interpolate_bwd` and `bwd` add, and the weights of drawing
+--   Ties        at f32 these formulas are what `interpolate` writes, what `interpolate_bwd`, `bwd` and `bwd_antialias` add, what `antialias` writes, and the weights of drawing
 --   Rationals   the laws hold of the rational numbers (in specs/); Examples computes one
 --
 -- What is not said:
@@ -23,7 +23,7 @@
 --   the way from a gradient in the image to the corners is a derivative (`edge_true`), the weights being held fixed;
 --   a smoothed pixel's theorem is of one crossing, its two values held: where two crossings write one pixel, the later one stands, and nothing is said of
 --   which crossings there are while the vertices move;
---   intersections are not covered: nothing is said of the coefficients and normals that they use.
+--   intersections of faces in `bwd` are not covered: nothing is said of the coefficients and normals that they use.
 
 -- what is asked of an arithmetic, and movement
 pub mod Laws

@@ -1,10 +1,8 @@
 -- What the passes read and add, in the words of this crate.
-use Rattle.std.specs.Prelude.{ℕ, ◌+◌, ◌*◌, Float, get_or}
-use mathlib.Core.List.{List, [], ◌∷◌}
+use Rattle.std.specs.Prelude.{Float, get_or}
+use mathlib.Core.List.{List}
 use Rattle.std.specs.Float.{nan}
-use Rattle.geometry.specs.Vector.{Vec3}
 use Rattle.meshes.specs.View.{View}
-use Rattle.meshes.specs.Sums as Sums
 use Rattle.pixel_rays.specs.Rays.{Image, ray_of}
 use Rattle.vertex_values.specs.Pass.{Vertices}
 use Rattle.truth.specs.Image.{Scene}
@@ -20,7 +18,3 @@ scene_of g s v dldw =
       val = λ k. get_or s.val k nan;
       dldw = λ k. get_or dldw k nan;
     }
-
--- a gradient to the three coordinates of vertex v
-abbrev pub to_place : ℕ → Vec3 Float → List Sums.Addition
-to_place v a = Sums.addition (3 * v) a.x ∷ Sums.addition (3 * v + 1) a.y ∷ Sums.addition (3 * v + 2) a.z ∷ []

@@ -33,5 +33,5 @@ unfolding written
 returns c =
     let a = c.args in
     let inv = c.loop-y.invariant in
-    edge_ended (writes a.vin.now) (seen_of a.o.now) (ends_of a.t.now.reach.e) wrote a.vout.now a.t.now.reach.rows c.loop-y.y (rw c.requires.height at a.t.now.reach.met)
+    edge_ended (writes a.vin.now) (seen_of a.o.now) (ends_of a.t.now.reach.e) wrote a.vout.now a.t.now.reach.rows c.loop-y.y (rw c.requires.height at a.t.now.reach.extent)
     (omega (arith, inv.1, inv.2, c.loop-y-test.false)) inv.3

@@ -2,10 +2,10 @@ use mathlib.Core.List.{flat_map}
 use Rattle.antialias.specs.Smoothing.{written, writes}
 use Rattle.antialias.proofs.smooth_pair.Goals as goal
 
-pub returns-in-Some : goal.returns-in-Some
+pub returns : goal.returns
 unfolding flat_map written writes
-returns-in-Some c = rw (← c.in-Some.ensures.met) c.smooth_met.ensures
+returns c = rw (← c.in-Some.ensures.met) c.smooth_met.ensures
 
-pub returns-in-None : goal.returns-in-None
+pub returns-in_default : goal.returns-in_default
 unfolding flat_map written writes
-returns-in-None c = rw (← c.in-None.ensures.met) (λ i. c.args.vout.now)
+returns-in_default c = rw (← c.in_default.ensures.met) (λ i. c.args.vout.now)

@@ -1,4 +1,11 @@
-use mathlib.Core.List.{flat_map}
+use mathlib.Core.Bool.{Bool, cond}
+use mathlib.Core.Path.{ap, ◌∙◌}
+use mathlib.Core.List.{List, [], flat_map}
+use Rattle.std.specs.Float.{Float}
+use Rattle.std.specs.List.{fold}
+use Rattle.pixels.specs.Pixel.{Pixel}
+use Rattle.outline_views.specs.Outline.{pixel_met}
+use Rattle.outline_views.specs.Steps.{both_met}
 use Rattle.pixels.specs.Answer.{axis_of}
 use Rattle.outlines.specs.Answer.{ends_of, pixel_of}
 use Rattle.outline_views.specs.Laws.{pixel_ended}
@@ -14,5 +21,10 @@ pub returns : goal.returns
 unfolding written
 returns c =
     let a = c.args in
-    pixel_ended (writes a.vin.now) (seen_of a.o.now) (ends_of a.t.now.reach.e) wrote a.vout.now (axis_of a.t.now.axis) (pixel_of a.p) a.t.now.pairs
-    (rw c.if-not-touches.false at c.touches.ensures) (rw c.before-2.ensures.pixel at c.smooth_pair.ensures) (rw c.after.ensures.pixel at c.smooth_pair-2.ensures)
+    let s = seen_of a.o.now in
+    let e = ends_of a.t.now.reach.e in
+    let brings : List Float → Pixel → List Float = λ before q. fold wrote before (flat_map (writes a.vin.now) (both_met s e (pixel_of a.p) q)) in
+    pixel_ended (writes a.vin.now) s e wrote a.vout.now (axis_of a.t.now.axis) (pixel_of a.p) a.t.now.pairs
+    (c.touches.ensures ∙ ap (λ (b : Bool). cond b (pixel_met s e (pixel_of a.p)) []) c.if-not-touches.false)
+    (c.smooth_pair.ensures ∙ ap (brings a.vout.now) c.before-2.ensures.pixel)
+    (c.smooth_pair-2.ensures ∙ ap (brings c.smooth_pair.new.vout) c.after.ensures.pixel)

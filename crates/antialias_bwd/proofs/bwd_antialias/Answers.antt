@@ -9,9 +9,8 @@ pub scatter_outline-requires-clause-pixels : goal.scatter_outline-requires-claus
 scatter_outline-requires-clause-pixels c =
     (bwd_antialias_accepted _ _ _ _ _ c.in_ok-o.ensures.code).0 ∙ sym (ap (λ (s : OutlineView). s.width * s.height) c.in_ok-o.ensures.lent.seen)
 
-pub scatter_outline-requires-clause-gradients : goal.scatter_outline-requires-clause-gradients
-scatter_outline-requires-clause-gradients c =
-    (bwd_antialias_accepted _ _ _ _ _ c.in_ok-o.ensures.code).1 ∙ sym (ap (λ (s : OutlineView). s.width * s.height) c.in_ok-o.ensures.lent.seen)
+pub invariant_of-values : goal.invariant_of-values
+invariant_of-values c = let known = bwd_antialias_accepted _ _ _ _ _ c.in_ok-o.ensures.code in record { alike = known.1 ∙ sym known.0 }
 
 pub scatter_outline-requires-clause-lent : goal.scatter_outline-requires-clause-lent
 scatter_outline-requires-clause-lent c =

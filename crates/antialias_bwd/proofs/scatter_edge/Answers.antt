@@ -39,4 +39,4 @@ returns c =
     let a = c.args in
     let inv = c.loop-y.invariant in
     edge_ended (brought a.values.now a.a.now) (seen_of a.o.now) (ends_of a.a.now.t.reach.e) added a.sums.now a.a.now.t.reach.rows c.loop-y.y
-    (rw c.requires.ready.height at a.a.now.t.reach.met) (omega (arith, inv.1, inv.2, c.loop-y-test.false)) inv.3
+    (rw c.requires.ready.height at a.a.now.t.reach.extent) (omega (arith, inv.1, inv.2, c.loop-y-test.false)) inv.3

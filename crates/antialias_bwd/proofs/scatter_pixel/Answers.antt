@@ -1,4 +1,11 @@
-use mathlib.Core.List.{flat_map}
+use mathlib.Core.Bool.{Bool, cond}
+use mathlib.Core.Path.{ap, ◌∙◌}
+use mathlib.Core.List.{List, [], flat_map}
+use Rattle.std.specs.Float.{Float}
+use Rattle.std.specs.List.{fold}
+use Rattle.pixels.specs.Pixel.{Pixel}
+use Rattle.outline_views.specs.Outline.{pixel_met}
+use Rattle.outline_views.specs.Steps.{both_met}
 use Rattle.meshes.specs.Sums.{added, summed}
 use Rattle.pixels.specs.Answer.{axis_of}
 use Rattle.outlines.specs.Answer.{ends_of, pixel_of}
@@ -15,5 +22,10 @@ pub returns : goal.returns
 unfolding summed
 returns c =
     let a = c.args in
-    pixel_ended (brought a.values.now a.a.now) (seen_of a.o.now) (ends_of a.a.now.t.reach.e) added a.sums.now (axis_of a.a.now.t.axis) (pixel_of a.p) a.a.now.t.pairs
-    (rw c.if-not-touches.false at c.touches.ensures) (rw c.before-2.ensures.pixel at c.scatter_pair.ensures) (rw c.after.ensures.pixel at c.scatter_pair-2.ensures)
+    let s = seen_of a.o.now in
+    let e = ends_of a.a.now.t.reach.e in
+    let brings : List Float → Pixel → List Float = λ before q. fold added before (flat_map (brought a.values.now a.a.now) (both_met s e (pixel_of a.p) q)) in
+    pixel_ended (brought a.values.now a.a.now) s e added a.sums.now (axis_of a.a.now.t.axis) (pixel_of a.p) a.a.now.t.pairs
+    (c.touches.ensures ∙ ap (λ (b : Bool). cond b (pixel_met s e (pixel_of a.p)) []) c.if-not-touches.false)
+    (c.scatter_pair.ensures ∙ ap (brings a.sums.now) c.before-2.ensures.pixel)
+    (c.scatter_pair-2.ensures ∙ ap (brings c.scatter_pair.new.sums) c.after.ensures.pixel)

@@ -1,12 +1,12 @@
 -- What the turns of a loop do to a value, one step for each item that they bring.
-use Rattle.std.specs.Prelude.{ℕ, ◌+◌, ◌-◌, ◌≤◌, ◌≡◌}
-use Rattle.std.proofs.Math.Path.{sym, ap}
+use Rattle.std.specs.Prelude.{ℕ, ◌+◌, ◌-◌, ◌≤◌, ◌<◌, ◌≡◌, length}
+use Rattle.std.proofs.Math.Path.{refl, sym, ap}
 use Rattle.std.proofs.Common.{◌∙◌, arith}
 use Rattle.std.specs.List.{fold}
 use Rattle.std.proofs.lemmas.List.Sums.{fold-append}
-use mathlib.Core.List.{List, ◌++◌, flat_map}
+use mathlib.Core.List.{List, [], ◌∷◌, ◌++◌, flat_map}
 use Rattle.lists.specs.Lists.{span}
-use Rattle.lists.specs.Laws.Turns.{flat_map_none, flat_map-one, flat_map-add}
+use Rattle.lists.specs.Laws.Turns.{flat_map_none, flat_map-one, flat_map-add, turns_narrowed}
 
 module _ {S A : Type 0} (step : S → A → S) where
   -- one list of items after the other
@@ -49,3 +49,14 @@ module _ {S A : Type 0} (step : S → A → S) where
   pub folds_ended : (f : ℕ → List A) (s : S) (j n : ℕ) {cur : S} → j ≤ n → n ≤ j → cur ≡ fold step s (flat_map f (span 0 j))
       → cur ≡ fold step s (flat_map f (span 0 n))
   folds_ended f s j n l g e = let same : j ≡ n = omega arith in e ∙ ap (λ (k : ℕ). fold step s (flat_map f (span 0 k))) same
+
+  -- the end of a loop from a on, where the turns of n out of its range bring nothing
+  pub folds_narrowed : (f : ℕ → List A) (s : S) (n a b x : ℕ) {cur : S} → b ≤ n → ((i : ℕ) → i < n → i < a → f i ≡ []) → ((i : ℕ) → i < n → b ≤ i → f i ≡ []) → x - a ≡ b - a
+      → cur ≡ fold step s (flat_map f (span a (x - a))) → cur ≡ fold step s (flat_map f (span 0 n))
+  folds_narrowed f s n a b x h early late k e =
+      e ∙ ap (λ (i : ℕ). fold step s (flat_map f (span a i))) k ∙ sym (ap (fold step s) (turns_narrowed f n a b h early late))
+
+-- steps that keep a list's length
+pub fold-long : {A B : Type 0} (step : List B → A → List B) → ((s : List B) (x : A) → length (step s x) ≡ length s) → (s : List B) (xs : List A) → length (fold step s xs) ≡ length s
+fold-long step keeps s [] = refl
+fold-long step keeps s (x ∷ xs) = fold-long step keeps (step s x) xs ∙ keeps s x

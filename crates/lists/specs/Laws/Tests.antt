@@ -1,6 +1,6 @@
 -- What a test in the code leaves known: of the answer r of a call, which is the definition's t, and of a branch.
-use Rattle.std.specs.Prelude.{◌≡◌, refl, Bool, true, false, not, ◌&&◌, cond}
-use Rattle.std.proofs.Common.{sym, ◌∙◌}
+use Rattle.std.specs.Prelude.{ℕ, ◌≤◌, ◌<◌, ◌≡◌, refl, ◌⊎◌, Bool, true, false, not, ◌&&◌, cond, ltb}
+use Rattle.std.proofs.Common.{sym, ◌∙◌, inl, inr, ltb-true, ltb-false}
 use Rattle.std.proofs.lemmas.Bool.{false≢true, not-true, not-false}
 
 -- `if answer(..)` found v
@@ -33,3 +33,11 @@ after_yes p q = rw (p, q)
 
 pub after_no : {a : Bool} (b : Bool) → a ≡ false → a && b ≡ false
 after_no b p = rw p
+
+-- i is below j or not
+pub below_or : (i j : ℕ) → (i < j) ⊎ (j ≤ i)
+below_or i j = go (ltb i j) refl
+  where
+    go : (b : Bool) → ltb i j ≡ b → (i < j) ⊎ (j ≤ i)
+    go true e = inl (ltb-true i j e)
+    go false e = inr (ltb-false i j e)

@@ -1,9 +1,10 @@
 -- What the turns of a loop bring, one list after the other.
-use Rattle.std.specs.Prelude.{ℕ, zero, suc, ◌+◌, ◌-◌, ◌*◌, ◌≤◌, ◌<◌, ◌≡◌}
+use Rattle.std.specs.Prelude.{ℕ, zero, suc, ◌+◌, ◌-◌, ◌*◌, ◌≤◌, ◌<◌, ◌≡◌, ◌⊎◌}
 use Rattle.std.proofs.Math.Path.{refl, sym, ap, ap₂}
-use Rattle.std.proofs.Common.{◌∙◌, add-zero, zero-add, zero-mul, arith}
+use Rattle.std.proofs.Common.{◌∙◌, add-zero, zero-add, zero-mul, arith, inl, inr}
 use mathlib.Core.List.{List, [], ◌∷◌, ◌++◌, flat_map, append_assoc, append-nil}
 use Rattle.lists.specs.Lists.{tabulate, span}
+use Rattle.lists.specs.Laws.Tests.{below_or}
 use Rattle.lists.specs.Laws.Tables.{tabulate-add}
 
 module _ {A B : Type 0} (f : A → List B) where
@@ -12,7 +13,7 @@ module _ {A B : Type 0} (f : A → List B) where
   flat_map-append [] ys = refl
   flat_map-append (x ∷ xs) ys = ap (λ (t : List B). f x ++ t) (flat_map-append xs ys) ∙ sym (append_assoc (f x) (flat_map f xs) (flat_map f ys))
 
-  -- of what turns bring, what each of it brings
+  -- f of all that g's turns bring is, turn by turn, f of what g brings
   pub flat_map-flat : (g : ℕ → List A) (xs : List ℕ) → flat_map f (flat_map g xs) ≡ flat_map (λ i. flat_map f (g i)) xs
   unfolding flat_map
   flat_map-flat g [] = refl
@@ -63,6 +64,26 @@ module _ {B : Type 0} (f : ℕ → List B) where
       ∙ ap (λ (t : List B). flat_map f (span (0 + a) (b - a)) ++ t) (turns_nothing (0 + a + (b - a)) (n - b) (λ i l. late (0 + a + (b - a) + i) (omega arith) (omega arith)))
       ∙ append-nil (flat_map f (span (0 + a) (b - a)))
       ∙ ap (λ (i : ℕ). flat_map f (span i (b - a))) (zero-add a)
+
+  -- the same where b may come before a, and no turn brings anything then
+  pub turns_narrowed : (n a b : ℕ) → b ≤ n → ((i : ℕ) → i < n → i < a → f i ≡ []) → ((i : ℕ) → i < n → b ≤ i → f i ≡ []) → flat_map f (span 0 n) ≡ flat_map f (span a (b - a))
+  turns_narrowed n a b h early late = go (below_or a b)
+    where
+      none : b ≤ a → (i : ℕ) → i < n → f i ≡ []
+      none k i l = pick (below_or i a)
+        where
+          pick : (i < a) ⊎ (a ≤ i) → f i ≡ []
+          pick (inl m) = early i l m
+          pick (inr m) = late i l (omega arith)
+
+      out : b ≤ a → flat_map f (span 0 n) ≡ flat_map f (span a (b - a))
+      out k =
+          let e : 0 ≡ b - a = omega arith in
+          turns_nothing 0 n (λ i l. none k (0 + i) (omega arith)) ∙ sym (flat_map_none f a) ∙ ap (λ (m : ℕ). flat_map f (span a m)) e
+
+      go : (a < b) ⊎ (b ≤ a) → flat_map f (span 0 n) ≡ flat_map f (span a (b - a))
+      go (inl k) = turns_amid n a b (omega arith) h (λ i l. early i (omega arith) l) late
+      go (inr k) = out k
 
   -- row by row of n, where row y brings what g says of it
   pub turns_by_rows : (g : ℕ → List B) (n m : ℕ) → ((y : ℕ) → flat_map f (span (y * n) n) ≡ g y) → flat_map f (span 0 (m * n)) ≡ flat_map g (span 0 m)

@@ -11,18 +11,18 @@ use Rattle.geometry.specs.Leaf.{divided, project}
 use Rattle.jacobians.specs.Formula.{project_untested, jacobian_entry, jacobian_column, jacobian_at, jacobian}
 use Rattle.meshes.specs.Mesh.{vertex_at, face_at}
 use Rattle.meshes.specs.View.{entry_at}
-use Rattle.meshes.specs.Sums.{added, summed}
+use Rattle.meshes.specs.Sums.{at_vertex, added, summed}
 use Rattle.pixels.specs.Pixel.{centre, centre_of}
 use Rattle.inside.specs.Inside.{present}
 use Rattle.outlines.specs.Formula.{minus2, perp_dot, scaled2, crossing_from, crossing_of, crossing_gradient, end_shares, crossing_backward, mixed}
 use Rattle.outlines.specs.Leaf.{crosses, if_crosses, crossing_between}
 use Rattle.outlines.specs.Covered.{has_nan, meets_side, meets_square, side_of, above_at, below_at, parts_corners, covers}
-use Rattle.outlines.specs.Neighbours.{is_steep, pair_axis, neighbour_pair, within_border}
+use Rattle.outlines.specs.Neighbours.{is_steep, pair_axis, neighbour_pair, off_border}
 use Rattle.outline_views.specs.Outline.{OutlineView, outline_view, shown_in, outline_edge_at, both_ends, project_edge, met_at, pair_met, pixel_met, covered_met, edge_met, edge_items, outline_items, edge_projects, exact_images, outline_code}
 use Rattle.antialias.specs.Smoothing.{wrote, written, smoothed, writes}
 use Rattle.antialias.specs.Calls.{antialias_code, antialias_writes, antialiasing}
 use Rattle.antialias_bwd.specs.Formula.{pulled_back}
-use Rattle.antialias_bwd.specs.Additions.{crossing_dldr, at_vertex, to_ends, met_additions, crossing_additions}
+use Rattle.antialias_bwd.specs.Additions.{crossing_dldr, to_ends, met_additions, crossing_additions}
 use Rattle.antialias_bwd.specs.Calls.{bwd_antialias_code, outline_additions, antialiasing_bwd}
 use Rattle.sequences.specs.Example.{zero, one, quarter, three_quarters, four, matrix}
 use Rattle.theorems.specs.Examples.Values.{word}
@@ -67,5 +67,5 @@ not_in_map v l p h = let first : entry_at map p ≡ 0 = omega arith in rw first 
 -- smoothed, the pixel has three quarters, and backward both ends gain.
 pub ends_gain : (antialiasing seen map (amid one zero) (amid one zero) ≡ outcome 0 (amid three_quarters zero))
     × (antialiasing_bwd seen map (amid one zero) (amid one zero) (gradients zero zero) ≡ outcome 0 (gradients quarter three_quarters))
-unfolding tabulate flat_map float_with_sign first_no sizes groups exact row over cross2 divided project project_untested jacobian_entry jacobian_column jacobian_at jacobian vertex_at added summed centre centre_of present minus2 perp_dot scaled2 crossing_from crossing_of crossing_gradient end_shares crossing_backward mixed crosses if_crosses crossing_between has_nan meets_side meets_square side_of above_at below_at parts_corners covers is_steep pair_axis neighbour_pair within_border outline_edge_at both_ends project_edge met_at pair_met pixel_met covered_met edge_met edge_items outline_items edge_projects exact_images outline_code wrote written smoothed writes antialias_code antialias_writes antialiasing pulled_back crossing_dldr at_vertex to_ends met_additions crossing_additions bwd_antialias_code outline_additions antialiasing_bwd of_bits of_int add sub mul div neg lt le eq is_nan
+unfolding tabulate flat_map float_with_sign first_no sizes groups exact row over cross2 divided project project_untested jacobian_entry jacobian_column jacobian_at jacobian vertex_at added summed centre centre_of present minus2 perp_dot scaled2 crossing_from crossing_of crossing_gradient end_shares crossing_backward mixed crosses if_crosses crossing_between has_nan meets_side meets_square side_of above_at below_at parts_corners covers is_steep pair_axis neighbour_pair off_border outline_edge_at both_ends project_edge met_at pair_met pixel_met covered_met edge_met edge_items outline_items edge_projects exact_images outline_code wrote written smoothed writes antialias_code antialias_writes antialiasing pulled_back crossing_dldr at_vertex to_ends met_additions crossing_additions bwd_antialias_code outline_additions antialiasing_bwd of_bits of_int add sub mul div neg lt le eq is_nan
 ends_gain = (refl, refl)

@@ -1,12 +1,8 @@
 use Rattle.std.proofs.Common.{sym, ◌∙◌}
 use Rattle.questions.proofs.Laws.Refusals.{yes}
-use Rattle.outline_views.proofs.Asked.{size_passed, outline_passed}
+use Rattle.outline_views.proofs.Asked.{outline_passed}
 use Rattle.outline_views.proofs.Outline.ask.Goals as goal
 
 pub invariant_of-outline : goal.invariant_of-outline
 invariant_of-outline c =
-    record {
-      sound =
-          outline_passed _ _ _ _ _ _ _ _ (size_passed _ _ (sym c.sizes_ok.ensures ∙ yes _ _ c.in_ok-ask.ensures)) (sym c.edge_slices_ok.ensures ∙ yes _ _ c.in_ok-ask-2.ensures)
-          (sym c.lengths_exact.ensures ∙ yes _ _ c.in_ok-ask-3.ensures) (sym c.all_below.ensures ∙ yes _ _ c.in_ok-ask-4.ensures);
-    }
+    record { sound = outline_passed _ _ _ _ _ _ _ _ (sym c.lengths_exact.ensures ∙ yes _ _ c.in_ok-ask-3.ensures) (sym c.all_below.ensures ∙ yes _ _ c.in_ok-ask-4.ensures) }

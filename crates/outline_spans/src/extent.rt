@@ -4,8 +4,7 @@
 
 ghost use Rattle.std.specs.Prelude.{◌≡◌, true, ◌+◌, ◌≤◌};
 ghost use Rattle.outlines.specs.Covered.{meets_side};
-ghost use Rattle.outline_spans.specs.Narrowed.{Narrowed};
-ghost use Rattle.outline_spans.specs.Missed.{NoneBefore, NoneFrom};
+ghost use Rattle.outline_spans.specs.Narrowed.{NoneBefore, NoneFrom, Narrowed};
 
 use boxes::lines::Span;
 
@@ -28,7 +27,7 @@ fn is_past(a: f32, b: f32, n: usize, i: usize) -> bool
 }
 
 // A line off the border, before which none of n is met.
-fn first_met(a: f32, b: f32, n: usize) -> usize
+fn first_line(a: f32, b: f32, n: usize) -> usize
     requires { n ≤ 4096 }
     ensures least { 1 ≤ result }
     ensures missed { NoneBefore (meets_side a b) n result }
@@ -43,7 +42,7 @@ fn first_met(a: f32, b: f32, n: usize) -> usize
 }
 
 // A line up to the last of n, from which on none is met.
-fn past_met(a: f32, b: f32, n: usize) -> usize
+fn past_line(a: f32, b: f32, n: usize) -> usize
     requires some { 1 ≤ n }
     requires most { n ≤ 4096 }
     ensures most { result + 1 ≤ n }
@@ -60,13 +59,13 @@ fn past_met(a: f32, b: f32, n: usize) -> usize
 }
 
 // Of n lines, those that what lies from a to b, either first, meets.
-pub fn lines_met(a: f32, b: f32, n: usize) -> Span
+pub fn lines_of(a: f32, b: f32, n: usize) -> Span
     requires some { 1 ≤ n }
     requires most { n ≤ 4096 }
     ensures { Narrowed (meets_side a b) n result }
 {
     Span {
-        start: first_met(a, b, n),
-        end: past_met(a, b, n),
+        start: first_line(a, b, n),
+        end: past_line(a, b, n),
     }
 }
