@@ -243,12 +243,12 @@ uint32_t paqelzim_bwd(const uint32_t *tri2vtx, size_t tri2vtx_len,
 
 /* Smooths the outline: where an edge of cedge2vtx (two vertex numbers each) crosses the line between the centres of a pixel that
  * shows a face and of an empty neighbour, the nearer of the two gets a mix of both values. Edges go in their order, and each along
- * the pixels that it covers, in rising number: those whose closed square it meets on the picture. Pixels on the image border are
- * passed over. A covered pixel is paired with its left and right neighbour where the edge goes farther down than across, else with
- * its upper and lower one. Where the edge, ends included, crosses at a share rc of the way from the shown centre to the empty one,
- * from 0 up to but not including 1, the shown pixel gets 0.5 + rc parts of its own value and the rest of the empty one's if rc is
- * below 0.5; else the empty pixel gets rc - 0.5 parts of the shown value and the rest of its own. Of the map only its empty
- * entries count: which faces the others name is all one, and not asked.
+ * the pixels that it covers, in rising number: those whose closed square it meets on the picture; one with a coordinate that is NaN
+ * covers none. Pixels on the image border are passed over. A covered pixel is paired with its left and right neighbour where the
+ * edge goes farther down than across, else with its upper and lower one. Where the edge, ends included, crosses at a share rc of
+ * the way from the shown centre to the empty one, from 0 up to but not including 1, the shown pixel gets 0.5 + rc parts of its own
+ * value and the rest of the empty one's if rc is below 0.5; else the empty pixel gets rc - 0.5 parts of the shown value and the
+ * rest of its own. Of the map only its empty entries count: which faces the others name is all one, and not asked.
  * Writes: pix2vout, at the pixels that a crossing gives a mix; the last in the order stands. All others keep what they held: for a
  * whole picture, let pix2vout begin as a copy of pix2vin.
  * Questions: 1; 3: cedge2vtx is a multiple of 2, for at most 3,145,728 edges, vtx2xyz of 3; 4: pix2tri, pix2vin and pix2vout have

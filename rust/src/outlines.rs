@@ -44,15 +44,15 @@ mod ffi {
 /// shows a face and of an empty neighbour, the nearer of the two gets a mix of both values.
 ///
 /// Edges go in their order, and each along the pixels that it covers, in rising number: those whose closed square it meets on the
-/// picture. Pixels on the image border are passed over. A covered pixel is paired with two of its neighbours: the left and the right
+/// picture; one with a coordinate that is NaN covers none. Pixels on the image border are passed over. A covered pixel is paired with two of its neighbours: the left and the right
 /// one where the edge goes farther down than across, else the upper and the lower one. Where the edge, ends included, crosses at a
 /// share `rc` of the way from the shown centre to the empty one, from 0 up to but not including 1, the shown pixel gets `0.5 + rc`
 /// parts of its own value and the rest of the empty one's if `rc` is below 0.5; else the empty pixel gets `rc - 0.5` parts of the
 /// shown value and the rest of its own. Of the map only its empty entries count: which faces the others name is all one, and not
 /// asked.
 ///
-/// Writes: the places of `pix2vout` of the pixels that a crossing gives a mix, the last in the order stands. All others keep what
-/// they held: for a whole picture, `pix2vout` begins as a copy of `pix2vin`.
+/// Writes: the places of `pix2vout` of the pixels that a crossing gives a mix; where several do, the last in the order stands. All
+/// others keep what they held: for a whole picture, `pix2vout` begins as a copy of `pix2vin`.
 ///
 /// Questions: [1](Refusal::ImageSize), [3](Refusal::MeshSize): `cedge2vtx` is a multiple of 2, for at most 3,145,728 edges, and
 /// `vtx2xyz` of 3, for at most 1,048,576 vertices, [4](Refusal::BufferLength): `pix2tri`, `pix2vin` and `pix2vout` have
