@@ -11,6 +11,7 @@ use paqelzim::{interpolate, interpolate_bwd};
 
 #[path = "gradients/faults.rs"]
 mod faults;
+mod random;
 #[path = "gradients/rules.rs"]
 mod rules;
 #[path = "gradients/scene.rs"]

@@ -5,32 +5,16 @@
 //! An error is |got − wanted| over a scale: the accumulator's start, and the magnitudes of all that the crossings bring, before
 //! anything cancels.
 use paqelzim::{antialias, bwd_antialias};
+use random::Random;
+
+mod random;
 
 const SCENES: u64 = 5_000;
 const BOUND: f64 = 2e-5;
 const STEP: f64 = 1.0 / 65536.0;
 const EMPTY: u32 = u32::MAX;
 
-/// splitmix64
-struct Random(u64);
-
 impl Random {
-    fn bits(&mut self) -> u64 {
-        self.0 = self.0.wrapping_add(0x9e37_79b9_7f4a_7c15);
-        let mut z = self.0;
-        z = (z ^ (z >> 30)).wrapping_mul(0xbf58_476d_1ce4_e5b9);
-        z = (z ^ (z >> 27)).wrapping_mul(0x94d0_49bb_1331_11eb);
-        z ^ (z >> 31)
-    }
-
-    fn within(&mut self, first: usize, last: usize) -> usize {
-        first + (self.bits() >> 11) as usize % (last - first + 1)
-    }
-
-    fn between(&mut self, low: f64, high: f64) -> f64 {
-        low + (self.bits() >> 11) as f64 / (1u64 << 53) as f64 * (high - low)
-    }
-
     fn floats(&mut self, count: usize) -> Vec<f32> {
         (0..count).map(|_| self.between(-1.0, 1.0) as f32).collect()
     }

@@ -1,8 +1,8 @@
 -- What the outline knows past its questions.
 use Rattle.std.specs.Prelude.{ℕ, ◌*◌, ◌/◌, ◌≡◌, true, ◌&&◌, Bool, List, length, Float}
 use Rattle.lists.specs.Laws.Tests.{both}
-use Rattle.questions.specs.Questions.{sizes, groups, edge_slices, exact, all_below, most_edges, most_count}
-use Rattle.questions.specs.Laws.{Sized, sized, grouped, whole, exactly}
+use Rattle.questions.specs.Questions.{sizes, exact, all_below}
+use Rattle.questions.specs.Laws.{Sized, sized, exactly}
 use Rattle.questions.proofs.Laws.Refusals.{yes}
 use Rattle.outline_views.specs.Outline.{exact_images}
 use Rattle.outline_views.specs.Steps.{SoundOutline}

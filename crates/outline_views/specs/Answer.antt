@@ -1,6 +1,6 @@
 -- What the code's structs stand for.
 use Rattle.std.specs.Prelude as std
-use Rattle.std.specs.Prelude.{ℕ, ◌≡◌, Float, List, [], ◌∷◌, None, Some}
+use Rattle.std.specs.Prelude.{◌≡◌, Float, List, [], ◌∷◌, None, Some}
 use Rattle.std.proofs.Math.Option.{Option, none, some}
 use Rattle.outlines.specs.Formula as Formula
 use Rattle.outlines.specs.Answer.{ends_of, crossing_in}

@@ -1,12 +1,11 @@
 -- Where no crossing is, and an edge's crossings row by row.
-use Rattle.std.specs.Prelude.{ℕ, ◌+◌, ◌-◌, ◌*◌, ◌/◌, ◌%◌, ◌≤◌, ◌<◌, ◌≡◌, refl, ◌⊎◌, Bool, true, false, not, ◌&&◌, cond, ltb, List, [], Float, length}
+use Rattle.std.specs.Prelude.{ℕ, ◌+◌, ◌-◌, ◌*◌, ◌/◌, ◌%◌, ◌<◌, ◌≡◌, refl, Bool, true, false, not, ◌&&◌, cond, ltb, List, [], Float, length}
 use Rattle.std.specs.List.{fold}
-use Rattle.std.proofs.Common.{sym, ◌∙◌, ap, ap₂, inl, inr, arith, ltb-true, lt-ltb, le-ltb, mul_comm}
-use Rattle.std.proofs.lemmas.Bool.{lt-leb}
+use Rattle.std.proofs.Common.{sym, ◌∙◌, ap, ap₂, arith, ltb-true, lt-ltb, mul_comm}
 use Rattle.std.proofs.Math.Bool.{and-false}
 use mathlib.Core.List.{◌++◌, flat_map, append_assoc, append-nil}
 use Rattle.lists.specs.Lists.{tabulate, span}
-use Rattle.lists.specs.Laws.Turns.{flat_map-append, flat_map-flat, turns_same, turns_nothing, turns_amid, turns_by_rows}
+use Rattle.lists.specs.Laws.Turns.{flat_map-append, flat_map-flat, turns_same, turns_nothing, turns_by_rows}
 use Rattle.lists.specs.Laws.Folds.{folded_then, folds_narrowed}
 use Rattle.lists.specs.Laws.Tests.{both}
 use Rattle.questions.specs.Questions.{sizes, edge_slices, exact}
@@ -15,7 +14,6 @@ use Rattle.pixels.specs.Pixel.{Pixel, pixel, number_in, centre_of}
 use Rattle.pixels.specs.Edge.{Axis}
 use Rattle.pixels.specs.Laws.{row-at, column-at}
 use Rattle.boxes.specs.declared.lines.Span.{Span}
-use Rattle.boxes.specs.Box.{in_range}
 use Rattle.outlines.specs.Formula.{Ends}
 use Rattle.outlines.specs.Leaf.{crossing_between}
 use Rattle.outlines.specs.Covered.{has_nan, covers, meets_side, meets_square}
@@ -83,8 +81,7 @@ images_passed w h map a b e =
     let three = both (exact (w * h) a) _ two.1 in
     (exactly (w * h) a three.0, exactly (w * h) b three.1)
 
--- ---- lists of what is brought
-
+-- a pixel's four pairs, neighbour by neighbour
 four_pairs : (s : OutlineView) (e : Ends Float) (a : Axis) (p : Pixel)
     → flat_map (λ k. pair_met s e (neighbour_pair a p k)) (span 0 4) ≡ both_met s e p (before a p) ++ both_met s e p (after a p)
 unfolding both_met neighbour_pair flat_map tabulate
@@ -139,9 +136,6 @@ module _ {B : Type 0} (g : Met → List B) (s : OutlineView) (e : Ends Float) wh
   unfolding off_border
   on_border x y h = uncovered (pixel x y) (go (ltb 0 x) refl (ltb (x + 1) s.width) refl)
     where
-      rest : Bool
-      rest = ltb 0 y && ltb (y + 1) s.height
-
       go : (a : Bool) → ltb 0 x ≡ a → (b : Bool) → ltb (x + 1) s.width ≡ b → off_border s.width s.height (pixel x y) && covers e (pixel x y) ≡ false
       go true p true q = rw (h (ltb-true 0 x p) (ltb-true (x + 1) s.width q)) (and-false _)
       go true p false q = rw (p, q) refl

@@ -1,7 +1,6 @@
 -- What an accepted call knows.
 use Rattle.std.specs.Prelude.{ℕ, ◌+◌, ◌*◌, ◌/◌, ◌≤◌, ◌<◌, ◌≡◌, true, List, ◌++◌, length, Float}
 use Rattle.questions.specs.Questions.{all_below}
-use Rattle.questions.specs.Laws.{Sized}
 use Rattle.pixels.specs.Pixel.{Pixel}
 use Rattle.pixels.specs.Edge.{Axis}
 use Rattle.outlines.specs.Formula.{Ends}

@@ -1,7 +1,7 @@
 // What one face receives: a gradient in the image, taken back to the world and added to its corners. No function here is a public call.
 #![tactic(auto)]
 
-ghost use Rattle.std.specs.Prelude.{◌≡◌, ◌/◌, ◌<◌, length};
+ghost use Rattle.std.specs.Prelude.{◌≡◌, ◌/◌, length};
 ghost use Rattle.geometry.specs.Answer.{point2, point3, weights_of};
 ghost use Rattle.meshes.specs.Answer.{face_of};
 ghost use Rattle.meshes.specs.Mesh.{Among};

@@ -1,4 +1,5 @@
 //! Random meshes before a camera, drawn by the library.
+use crate::random::Random;
 use crate::rules::{dot, projected, ray, stretch, weights, Point, Ray};
 use paqelzim::{Facing, Layer};
 
@@ -39,26 +40,7 @@ pub struct Scene {
     pub before: Numbers<f32>,
 }
 
-/// splitmix64
-struct Random(u64);
-
 impl Random {
-    fn bits(&mut self) -> u64 {
-        self.0 = self.0.wrapping_add(0x9e37_79b9_7f4a_7c15);
-        let mut z = self.0;
-        z = (z ^ (z >> 30)).wrapping_mul(0xbf58_476d_1ce4_e5b9);
-        z = (z ^ (z >> 27)).wrapping_mul(0x94d0_49bb_1331_11eb);
-        z ^ (z >> 31)
-    }
-
-    fn within(&mut self, first: usize, last: usize) -> usize {
-        first + (self.bits() >> 11) as usize % (last - first + 1)
-    }
-
-    fn between(&mut self, low: f64, high: f64) -> f64 {
-        low + (self.bits() >> 11) as f64 / (1u64 << 53) as f64 * (high - low)
-    }
-
     /// Numbers of either sign, from 0.25 to 1 in size.
     fn numbers(&mut self, count: usize) -> Vec<f32> {
         let mut number = || (self.between(0.25, 1.0), self.bits() >> 63 == 0);
