@@ -29,7 +29,8 @@ fn draw_face(
         (face_pieces (scene m.now mesh.now.vtx2xyz.now layer.old.size.w layer.old.size.h facing) (face_at mesh.now.tri2vtx.now i)) number)
         (layer.old.size.w * layer.old.size.h) (held layer.old) }
 {
-    let Some(projected) = mesh.project(m, mesh.face(i)) else {
+    let f = mesh.face(i);
+    let Some(projected) = mesh.project(m, f) else {
         return;
     };
     let t11 = m[11];

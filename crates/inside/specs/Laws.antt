@@ -17,7 +17,7 @@ use Rattle.inside.specs.Inside.{present, projects}
 use Rattle.meshes.specs.Mesh.{all_three, project_face}
 use Rattle.inside.specs.Steps.{all_project}
 
-all_three_lem : {A : Type 0} (a b c : Option A) → present (all_three a b c) ≡ (present a && (present b && present c))
+pub all_three_lem : {A : Type 0} (a b c : Option A) → present (all_three a b c) ≡ (present a && (present b && present c))
 unfolding all_three present
 all_three_lem none b c = refl
 all_three_lem (some a) none c = refl

@@ -1,11 +1,16 @@
 -- Proved of the definitions, for the crates that use them.
+use Rattle.std.specs.Prelude as code
 use Rattle.std.specs.Prelude.{ℕ, zero, suc, ◌+◌, ◌-◌, ◌*◌, ◌/◌, ◌≤◌, ◌<◌, ◌≡◌, refl, true, ltb, Float, length, get_or, take, drop}
 use Rattle.std.proofs.Common.{sym, ap, ◌∙◌, not-suc-le-zero, le_of_suc-le-suc, add-one, arith, eq-eqb, ne_eqb, length-set, length-drop, drop-cons, length-take-le, get_or-take, get_or-drop}
-use Rattle.std.proofs.Math.Option.{none, some}
+use Rattle.std.proofs.Math.Option.{Option, none, some}
 use mathlib.Core.List.{List, [], ◌∷◌, ◌++◌, flat_map}
+use Rattle.std.proofs.lemmas.List.Sums.{fold-append}
 use Rattle.lists.specs.Lists.{span}
 use Rattle.lists.specs.Laws.Folds.{fold-long, folded_then, folds_none, folds_add, folds_one, folds_more, folds_ended}
 use Rattle.lists.specs.Laws.Every.{every-at, every_of}
+use Rattle.geometry.specs.Vector.{Projected}
+use Rattle.geometry.specs.Answer.{projection_of}
+use Rattle.geometry.specs.declared.Projected as codeP
 use Rattle.questions.specs.Questions.{all_below, names_face, names_faces, empty, most_count}
 use Rattle.questions.specs.Laws.{Sized, Grouped, whole, below_at}
 use Rattle.meshes.specs.Mesh.{Face, face, face_at, faces_of, flat, Among}
@@ -30,6 +35,10 @@ named_none tri x e = rw (eq-eqb x empty e)
 pub named_some : (tri : List ℕ) (x : ℕ) → (x ≡ empty → ⊥) → named tri x ≡ some (face_at tri x)
 unfolding named
 named_some tri x e = rw (ne_eqb x empty e)
+
+-- a projection as a `match` on it found it
+pub found : {e f : code.Option codeP.Projected} {t : Option (Projected Float)} → projection_of e ≡ t → e ≡ f → t ≡ projection_of f
+found k same = sym k ∙ ap projection_of same
 
 -- ---- the faces of a list
 
@@ -133,6 +142,10 @@ module _ (from to : ℕ) where
 -- ---- additions
 
 -- one list of additions after the other
+pub summed-append : (s : List Float) (xs ys : List Addition) → summed s (xs ++ ys) ≡ summed (summed s xs) ys
+unfolding summed
+summed-append s xs ys = fold-append added s xs ys
+
 pub summed_then : (s : List Float) {s1 s2 : List Float} (x y : List Addition) → s1 ≡ summed s x → s2 ≡ summed s1 y → s2 ≡ summed s (x ++ y)
 unfolding summed
 summed_then s x y p q = folded_then added s x y p q
@@ -170,6 +183,13 @@ turns_ended f s j n l g e = folds_ended added f s j n l g e
 
 -- ---- an accepted mesh and its map
 
+-- a vertex that a face names is there
+pub corner_there : {tri : List ℕ} {xyz : List Float} → SoundMesh tri xyz → (j : ℕ) → j < length tri → 3 * get_or tri j 0 + 2 < length xyz
+corner_there {tri} {xyz} s j h =
+    let e = s.vertices in
+    let l = below_at (length xyz / 3) tri s.named j h in
+    omega arith
+
 -- the corners of face number i are among the vertices
 pub corners_there : {tri : List ℕ} {xyz : List Float} (f : Face) (i : ℕ) → SoundMesh tri xyz → f ≡ face_at tri i → i < length tri / 3 → Among (length xyz / 3) f
 unfolding face_at
@@ -181,6 +201,10 @@ corners_there {tri} {xyz} f i s e h =
 -- each entry of the map names a face or none
 pub entry_named : {tri map : List ℕ} {xyz : List Float} {w h : ℕ} → SoundMap tri xyz map w h → (p : ℕ) → p < w * h → names_face (length tri / 3) (get_or map p 0) ≡ true
 entry_named {tri} {map} {xyz} {w} {h} s p l = every-at (names_face (length tri / 3)) map s.named p (omega (arith, s.whole))
+
+-- the entry that the code reads at pixel p, found in the view under p's number n
+pub entry-shown : {tri map : List ℕ} {xyz : List Float} {w h p n : ℕ} → SoundMap tri xyz map w h → (p ≡ n) × (p < w * h) → entry_at map n ≡ get_or map p 0
+entry-shown {tri} {map} {xyz} {w} {h} {p} {n} s k = ap (entry_at map) (sym k.0) ∙ sym (entry_read map p (omega (arith, s.whole, k.1)))
 
 -- questions 3 and 6 of the mesh, answered yes
 pub sound_mesh : {tri : List ℕ} {xyz : List Float} → Grouped 3 most_count (length tri) → Grouped 3 most_count (length xyz) → all_below (length xyz / 3) tri ≡ true → SoundMesh tri xyz

@@ -68,8 +68,10 @@ fn draw_pieces(layer: &mut LayerMut, number: u32, pieces: Pieces, facing: Facing
         Pieces::Whole(t) => draw_piece(layer, number, pieces::whole(t), false, facing),
         Pieces::One(l) => draw_piece(layer, number, l.one_piece(), l.turned, facing),
         Pieces::Two(l) => {
-            draw_piece(layer, number, l.first_piece(), l.turned, facing);
-            draw_piece(layer, number, l.second_piece(), l.turned, facing);
+            let first = l.first_piece();
+            draw_piece(layer, number, first, l.turned, facing);
+            let second = l.second_piece();
+            draw_piece(layer, number, second, l.turned, facing);
         }
     }
 }

@@ -3,7 +3,7 @@
 // has one NaN and no patterns of it, so every NaN is read as that one and written as 7fc00000.
 #![tactic(auto)]
 
-ghost use Rattle.std.specs.Prelude.{◌≡◌};
+ghost use Rattle.std.specs.Prelude.{◌≡◌, ◌<◌, IfSome};
 ghost use Rattle.std.specs.Float.{binary32, binary64};
 ghost use Rattle.std.specs.Float.Ieee.{of_bits};
 ghost use Rattle.words.specs.Patterns.{pattern_of};
@@ -70,7 +70,10 @@ fn word_in(text: &[u8]) -> Option<u32> {
     Some(word)
 }
 
-fn digit(byte: u8) -> Option<u32> {
+// The value of a digit.
+fn digit(byte: u8) -> Option<u32>
+    ensures { IfSome result (λ d. d < 16) }
+{
     match byte {
         b'0'..=b'9' => Some((byte - b'0') as u32),
         b'a'..=b'f' => Some((byte - b'a' + 10) as u32),

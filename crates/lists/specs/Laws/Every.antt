@@ -1,7 +1,7 @@
 -- A test of every number of a list, or of numbers in a row, as a loop asks it.
 use Rattle.std.specs.Prelude.{ℕ, zero, suc, ◌+◌, ◌-◌, ◌*◌, ◌≤◌, ◌<◌, ◌≡◌, Bool, true, false, ◌&&◌, length, drop, get_or}
 use Rattle.std.proofs.Math.Path.{refl, sym, ap, ap₂}
-use Rattle.std.proofs.Common.{◌∙◌, add-zero, zero-add, zero-mul, mul_comm, mul-le-mul_right, not-suc-le-zero, le_of_suc-le-suc, add-one, arith, drop-cons}
+use Rattle.std.proofs.Common.{◌∙◌, add-zero, zero-add, zero-mul, mul_comm, mul-le-mul_right, not-suc-le-zero, le_of_suc-le-suc, add-one, arith, drop_of_length-le, drop-cons}
 use Rattle.std.proofs.Math.Bool.{and-true, and-false, and_assoc}
 use mathlib.Core.List.{List, [], ◌∷◌}
 use Rattle.std.proofs.lemmas.List.Folds.{list_all-append}
@@ -28,10 +28,28 @@ every_of test d (x ∷ xs) h = rw (h 0 (omega arith)) (every_of test d xs (λ i 
 
 -- ---- a loop over a list
 
--- It gathers the answers, and goes on after a no.
+module _ (test : ℕ → Bool) (xs : List ℕ) (i : ℕ) where
+  every-from : i < length xs → every test (drop i xs) ≡ test (get_or xs i 0) && every test (drop (suc i) xs)
+  every-from h = rw (drop-cons xs i 0 h)
+
+  pub more : (i ≤ length xs) × (every test xs ≡ every test (drop i xs)) → i < length xs → test (get_or xs i 0) ≡ true
+      → (i + 1 ≤ length xs) × (every test xs ≡ every test (drop (i + 1) xs))
+  more p h t = (omega arith, p.1 ∙ every-from h ∙ rw (t, add-one))
+
+  pub stopped : every test xs ≡ every test (drop i xs) → i < length xs → test (get_or xs i 0) ≡ false → false ≡ every test xs
+  stopped p h t = sym (p ∙ every-from h ∙ rw t)
+
+  pub ended : every test xs ≡ every test (drop i xs) → length xs ≤ i → true ≡ every test xs
+  ended p h = sym (p ∙ rw (drop_of_length-le xs h))
+
+  -- the same, of a loop that gathers the answers and goes on after a no, at its end
+  pub gathered_all : (all : Bool) → every test xs ≡ all && every test (drop i xs) → length xs ≤ i → all ≡ every test xs
+  gathered_all all p h = sym (p ∙ rw (drop_of_length-le xs h) (and-true all))
+
+-- and at each turn
 pub gathered : (test : ℕ → Bool) (xs : List ℕ) (i : ℕ) (all : Bool) → every test xs ≡ all && every test (drop i xs) → i < length xs
     → every test xs ≡ (all && test (get_or xs i 0)) && every test (drop (i + 1) xs)
-gathered test xs i all p h = p ∙ rw (drop-cons xs i 0 h, add-one) (sym (and_assoc all (test (get_or xs i 0)) (every test (drop (suc i) xs))))
+gathered test xs i all p h = p ∙ rw (every-from test xs i h, add-one) (sym (and_assoc all (test (get_or xs i 0)) (every test (drop (suc i) xs))))
 
 -- ---- a loop over numbers in a row
 
@@ -74,6 +92,10 @@ module _ (t : ℕ → Bool) where
       let e : n + (m + (whole - (n + m))) ≡ whole = omega arith in
       sym (ap (λ (k : ℕ). every t (span a k)) (sym e) ∙ every-add a n (m + (whole - (n + m))) ∙ rw (every-add (a + n) m (whole - (n + m)), q) (and-false (every t (span a n))))
 
+  -- nothing is left
+  pub every_ended : (a n whole : ℕ) → n ≤ whole → whole ≤ n → every t (span a n) ≡ true → true ≡ every t (span a whole)
+  every_ended a n whole l g p = let e : n ≡ whole = omega arith in sym (ap (λ (k : ℕ). every t (span a k)) (sym e) ∙ p)
+
   -- the same from 0 on, one by one
   pub every_next : (i : ℕ) → every t (span 0 i) ≡ true → t i ≡ true → every t (span 0 (i + 1)) ≡ true
   every_next i p q = every_more 0 i 1 p (every_one (0 + i) ∙ ap t (zero-add i) ∙ q)
@@ -96,6 +118,22 @@ module _ (t : ℕ → Bool) where
 
   pub all_pass : (n : ℕ) → ((i : ℕ) → t i ≡ true) → every t (span 0 n) ≡ true
   all_pass n h = every_of t 0 (span 0 n) (λ i l. h (get_or (span 0 n) i 0))
+
+  -- the same, row by row of w
+  module _ (w h iy : ℕ) where
+    pub rows_more : every t (span 0 (iy * w)) ≡ true → every t (span (iy * w) w) ≡ true → every t (span 0 ((iy + 1) * w)) ≡ true
+    rows_more p q =
+        let e : iy * w + w ≡ (iy + 1) * w = omega arith in
+        ap (λ (k : ℕ). every t (span 0 k)) (sym e) ∙ every_more 0 (iy * w) w p (ap (λ (k : ℕ). every t (span k w)) (zero-add (iy * w)) ∙ q)
+
+    pub rows_stopped : iy < h → every t (span (iy * w) w) ≡ false → false ≡ every t (span 0 (w * h))
+    rows_stopped l q =
+        every_stopped 0 (iy * w) w (w * h) (row_below w h iy l) (ap (λ (k : ℕ). every t (span k w)) (zero-add (iy * w)) ∙ q)
+
+    pub rows_ended : iy ≤ h → h ≤ iy → every t (span 0 (iy * w)) ≡ true → true ≡ every t (span 0 (w * h))
+    rows_ended l g p =
+        let e : iy ≡ h = omega arith in
+        sym (ap (λ (k : ℕ). every t (span 0 k)) (mul_comm w h ∙ ap (λ (k : ℕ). k * w) (sym e)) ∙ p)
 
 module _ (t : ℕ → Bool) where
   -- numbers from a on, each by its distance from there

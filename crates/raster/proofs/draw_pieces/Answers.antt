@@ -24,5 +24,5 @@ unfolding two_pieces
 returns-in-Two-clause-painted c = let a = c.args in
     let size = a.layer.now.size in
     let first = c.draw_piece-in-Two.ensures in
-    rw (c.in-Two.is, ← c.first_piece.ensures, ← c.second_piece.ensures)
+    rw (c.in-Two.is, ← c.first_piece-first.ensures, ← c.second_piece-second.ensures)
     (two_done a.facing size.w size.h a.number (held a.layer.now) _ _ _ _ first.painted (rw (← first.same.width, ← first.same.height) at c.draw_piece-in-Two-2.ensures.painted))
