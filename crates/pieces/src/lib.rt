@@ -151,7 +151,7 @@ fn lone_first(l0: bool, l1: bool, t: Triangle<Corner>) -> Lone
 }
 
 // Some corners beyond and some not, or a score that is NaN. (Here and in the two that choose before it each case returns: joined by `else`, the corners are put together
-// once more where the cases meet, and a load of faces that are cut or hidden takes 1.25 to 1.5 of this code's time.)
+// once more where the cases meet, and a load of faces that are cut or hidden takes 1.1 to 1.2 of this code's time.)
 #[tactic(auto, unfolding(rules::specs::Piece::mixed))]
 fn mixed(t: Triangle<Corner>) -> Pieces
     ensures { pieces_of result ≡ rule.mixed (corner_of t.p0) (corner_of t.p1) (corner_of t.p2) }
